@@ -1,0 +1,4 @@
+-- The lemmas of the heap.
+pub mod Sifts
+pub mod Cuts
+pub mod Leasts

@@ -1,0 +1,5 @@
+pub mod Codes
+pub mod Nets
+pub mod Edges
+pub mod Networks
+pub mod Entries

@@ -1,0 +1,29 @@
+-- The number of each refusal, and the line of a sheet that it speaks of.
+use Prim.Native.Nat.{ℕ}
+use Rattle.refusal.specs.declared.Refusal.{Refusal}
+use Rattle.refusal.specs.declared.Refusal.the-variants.{NodesFull, EdgesFull, AmountTooLarge, UnknownNode, EqualEnds, BadCode, ListTooShort, HeapFull, LineForm, LineEntry}
+
+abbrev pub refusal-number : Refusal → ℕ
+refusal-number NodesFull = 1
+refusal-number EdgesFull = 2
+refusal-number AmountTooLarge = 3
+refusal-number UnknownNode = 4
+refusal-number EqualEnds = 5
+refusal-number BadCode = 6
+refusal-number ListTooShort = 12
+refusal-number HeapFull = 13
+refusal-number (LineForm line) = 14
+refusal-number (LineEntry line) = 15
+
+-- 0 where no line applies
+abbrev pub refusal-line : Refusal → ℕ
+refusal-line NodesFull = 0
+refusal-line EdgesFull = 0
+refusal-line AmountTooLarge = 0
+refusal-line UnknownNode = 0
+refusal-line EqualEnds = 0
+refusal-line BadCode = 0
+refusal-line ListTooShort = 0
+refusal-line HeapFull = 0
+refusal-line (LineForm line) = line
+refusal-line (LineEntry line) = line

@@ -1,0 +1,4 @@
+pub mod Orders
+pub mod Sorts
+pub mod Collecting
+pub mod Works

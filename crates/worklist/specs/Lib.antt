@@ -1,0 +1,4 @@
+pub mod Codes
+pub mod Sorting
+pub mod WorkLists
+pub mod Keys
