@@ -35,7 +35,10 @@ impl Code {
         }
         let mut bytes = [0; 8];
         bytes[0..text.len()].copy_from_slice(text);
-        Some(Code { bytes, len: text.len() })
+        Some(Code {
+            bytes,
+            len: text.len(),
+        })
     }
 
     pub fn text(&self) -> &[u8]

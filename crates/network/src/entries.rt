@@ -15,7 +15,9 @@ use std::alloc::AllocError;
 use std::alloc::Global;
 
 const MOST_NODES: usize = 256;
+
 const MOST_EDGES: usize = 1024;
+
 const MOST_AMOUNT: u64 = 1_000_000_000;
 
 impl Network {
@@ -65,10 +67,12 @@ impl Network {
     fn edge_refusal(&self, first: usize, second: usize, cost: u64) -> Option<Refusal>
         ensures { λ r. ⌜ r ≡ before-code-refusal (net-of (now (self .entry))) first second cost ⌝ }
     {
-        if self.edges.len() >= MOST_EDGES {
+        let full = self.edges.len() >= MOST_EDGES;
+        if full {
             return Some(Refusal::EdgesFull);
         }
-        if cost > MOST_AMOUNT {
+        let costly = cost > MOST_AMOUNT;
+        if costly {
             return Some(Refusal::AmountTooLarge);
         }
         if first >= self.prizes.len() || second >= self.prizes.len() {
@@ -98,7 +102,12 @@ impl Network {
             return Err(Refusal::BadCode);
         };
         let number = self.edges.len();
-        self.edges.push_reserved(Edge { first, second, cost, code });
+        self.edges.push_reserved(Edge {
+            first,
+            second,
+            cost,
+            code,
+        });
         Ok(number)
     }
 

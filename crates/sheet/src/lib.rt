@@ -7,7 +7,7 @@ mod reads;
 mod record;
 mod records;
 
-pub use loader::SheetLoader;
 use field::Field;
+pub use loader::SheetLoader;
 use reader::Reader;
 use record::Record;

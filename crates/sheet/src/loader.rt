@@ -18,9 +18,12 @@ fn enter(network: &mut Network, new: Record, line: usize) -> Result<(), Refusal>
 {
     let entered = match new {
         Record::Node { prize } => network.add_node(prize),
-        Record::Edge { first, second, cost, code } => {
-            network.add_edge(first as usize, second as usize, cost, code)
-        }
+        Record::Edge {
+            first,
+            second,
+            cost,
+            code,
+        } => { network.add_edge(first as usize, second as usize, cost, code) }
     };
     match entered {
         Ok(_) => Ok(()),
@@ -52,7 +55,9 @@ impl SheetLoader {
     pub fn open(heap: Global) -> Result<SheetLoader, AllocError>
         ensures { λ r. ⌜ made r (λ l. net-of (l .spare) ≡ empty-net) ⌝ }
     {
-        Ok(SheetLoader { spare: Network::open(heap)? })
+        Ok(SheetLoader {
+            spare: Network::open(heap)?,
+        })
     }
 
     // Reads the sheet: its network replaces the caller's, or the first bad line refuses it and the caller's stays.

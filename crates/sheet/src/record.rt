@@ -2,6 +2,13 @@
 
 #[derive(Clone, Copy)]
 pub(crate) enum Record<'a> {
-    Node { prize: u64 },
-    Edge { first: u64, second: u64, cost: u64, code: &'a [u8] },
+    Node {
+        prize: u64,
+    },
+    Edge {
+        first: u64,
+        second: u64,
+        cost: u64,
+        code: &'a [u8],
+    },
 }

@@ -37,7 +37,12 @@ impl<'a> Reader<'a> {
         let Some(Field::Code(code, _)) = self.code(b'\n') else {
             return Err(Refusal::LineForm { line });
         };
-        Ok(Record::Edge { first, second, cost, code })
+        Ok(Record::Edge {
+            first,
+            second,
+            cost,
+            code,
+        })
     }
 
     // The record of the next line, which has this number, up to and with its line feed.
