@@ -1,8 +1,7 @@
 // Reads a sheet on standard input and prints its network's edges in work-list order, or why it was refused.
 use network::Network;
-use refusal::Refusal;
+use refusal::RefusalDisplay;
 use sheet::SheetLoader;
-use std::alloc::Global;
 use std::error::AnyError;
 use std::io;
 use std::io::Read;
@@ -47,20 +46,16 @@ fn print_network(rt: &LibcRuntime, network: &Network) -> Result<(), AnyError> {
     print_edges(rt, network)
 }
 
-fn print_refusal(rt: &LibcRuntime, why: Refusal) -> Result<(), AnyError> {
-    let number = why.number();
-    let line = why.line();
-    println!(rt, "refused\t{number}\t{line}")?;
-    Ok(())
-}
-
 fn run(rt: &LibcRuntime) -> Result<(), AnyError> {
     let sheet = read_sheet(rt)?;
     let mut network = Network::open(rt.alloc())?;
     let mut loader = SheetLoader::open(rt.alloc())?;
     match loader.read(sheet.as_slice(), &mut network) {
         Ok(()) => print_network(rt, &network),
-        Err(why) => print_refusal(rt, why),
+        Err(why) => {
+            println!(rt, "{why}")?;
+            Ok(())
+        }
     }
 }
 

@@ -1,5 +1,8 @@
 -- The number of each refusal, and the line of a sheet that it speaks of.
+use mathlib.Core.List.{List, _++_}
 use Prim.Native.Nat.{ℕ}
+use lib.Chars.{codes}
+use Rattle.std.specs.Written.{decimal}
 use Rattle.refusal.specs.declared.Refusal.{Refusal}
 use Rattle.refusal.specs.declared.Refusal.the-variants.{NodesFull, EdgesFull, AmountTooLarge, UnknownNode, EqualEnds, BadCode, ListTooShort, HeapFull, LineForm, LineEntry}
 
@@ -27,3 +30,7 @@ refusal-line ListTooShort = 0
 refusal-line HeapFull = 0
 refusal-line (LineForm line) = line
 refusal-line (LineEntry line) = line
+
+-- `refused`, number and line, parted by tabs
+abbrev pub refusal-text : Refusal → List ℕ
+refusal-text r = codes "refused\t" ++ (decimal (refusal-number r) ++ (codes "\t" ++ decimal (refusal-line r)))

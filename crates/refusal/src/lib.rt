@@ -1,6 +1,8 @@
 // Why a call says no: one enum for every call, with its number.
 ghost use mathlib.Core.Path.{_≡_};
-ghost use Rattle.refusal.specs.Numbers.{refusal-number, refusal-line};
+ghost use Rattle.std.specs.declared.option.Option.the-variants.{Some};
+ghost use Rattle.refusal.specs.Numbers.{refusal-number, refusal-line, refusal-text};
+use std::fmt;
 
 // The lowest-numbered refusal that applies is the answer; docs/REFUSALS.md has a row for each.
 #[derive(Clone, Copy, PartialEq, Eq, Debug)]
@@ -45,5 +47,16 @@ impl Refusal {
             Refusal::LineEntry { line } => line,
             _ => 0,
         }
+    }
+}
+
+// As a report prints it: the word, the number and the line, parted by tabs.
+pub impl fmt::Display for Refusal as RefusalDisplay {
+    ghost shown = { λ r. Some (refusal-text r) };
+
+    fn fmt<W: fmt::Write>(&self, f: &mut fmt::Formatter<W>) -> fmt::Result {
+        let number = self.number();
+        let line = self.line();
+        write!(f, "refused\t{number}\t{line}")
     }
 }

@@ -20,7 +20,7 @@ use Rattle.sheet.specs.Sheets.{enter-record, enter-fields, then-enter, enter-l
 use Rattle.sheet.specs.Readers.{is-empty, Parsed, parsed, then-line, parsed-behind}
 
 -- the bytes behind a line are fewer
-abbrev Shorter : ℕ → Option Line → Type 0
+abbrev pub Shorter : ℕ → Option Line → Type 0
 Shorter n None = Unit {0}
 Shorter n (Some l) = length (l .rest) < n
 
@@ -33,7 +33,7 @@ shorter-at : (p : Bool) (q : Bool) (b : ℕ) (bs : List ℕ) → Shorter (length
 shorter-at true q b bs h = omega arith
 shorter-at false q b bs h = shorter-mapped (length bs) q b (first-line bs) h
 
-line-shorter : (bs : List ℕ) → Shorter (length bs) (first-line bs)
+pub line-shorter : (bs : List ℕ) → Shorter (length bs) (first-line bs)
 line-shorter [] = tt
 line-shorter (b ∷ bs) = shorter-at (eqb b 10) (eqb b 9) b bs (line-shorter bs)
 

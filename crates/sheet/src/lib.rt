@@ -6,8 +6,10 @@ mod reader;
 mod reads;
 mod record;
 mod records;
+mod writer;
 
 use field::Field;
 pub use loader::SheetLoader;
+pub use writer::write_sheet;
 use reader::Reader;
 use record::Record;

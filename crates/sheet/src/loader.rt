@@ -5,6 +5,7 @@ ghost use Rattle.network.specs.Networks.{net-of};
 ghost use Rattle.network.specs.Nets.{empty-net};
 ghost use Rattle.sheet.specs.Sheets.{read-sheet, read-answer, read-leaves, enter-from, enter-record, Entered};
 ghost use Rattle.sheet.specs.Readers.{entry-in};
+ghost use Rattle.sheet.specs.Rounds.{Write-after-read};
 use crate::Reader;
 use crate::Record;
 use network::Network;
@@ -64,6 +65,7 @@ impl SheetLoader {
     pub fn read(&mut self, sheet: &[u8], network: &mut Network) -> Result<(), Refusal>
         ensures answer { λ r. ⌜ r ≡ read-answer (read-sheet (now (sheet .entry))) ⌝ }
         ensures after { λ _. ⌜ net-of (now (network .exit)) ≡ read-leaves (net-of (now (network .entry))) (read-sheet (now (sheet .entry))) ⌝ }
+        ensures written_back { λ _. ⌜ Write-after-read (now (sheet .entry)) ⌝ }
     {
         self.spare.clear();
         enter_lines(sheet, &mut self.spare)?;
