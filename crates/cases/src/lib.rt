@@ -5,3 +5,5 @@ mod entries;
 mod sheets;
 #[cfg(test)]
 mod work_lists;
+#[cfg(test)]
+mod written;

@@ -18,7 +18,6 @@ use Rattle.network.specs.Nets.{Net, Link, valid, valid-prize, valid-link}
 use Rattle.sheet.specs.Writing.{node-line, edge-line, sheet-of}
 use Rattle.sheet.proofs.Pieces.{tabbed, edge-long}
 
-
 node-le : (p : ℕ) → valid-prize p ≡ true → length (node-line p) ≤ 13
 node-le p h = let l = leb-true p 1000000000 h in let n = length-decimal-le 10 p (omega arith) (omega arith) (omega arith) in let m = length-push (decimal p) 10 in omega arith
 

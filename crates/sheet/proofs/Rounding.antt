@@ -239,8 +239,7 @@ pub write-after-read : (bytes : List ℕ) → Write-after-read bytes
 write-after-read bytes net h =
     let a = accepted (length bytes) 1 net empty-net bytes (omega arith) h in
     let es = entries-of bytes in
-    let sound = a .sound refl in
-    (
+    let sound = a .sound refl in (
       λ first. ap sheet-of (a .made ∙ entered-is empty-net es) ∙ nodes-first-lines es first ∙ sym (a .lines),
       λ same. ap (λ b. nodes-first (entries-of b)) (sym same ∙ written-lines net) ∙ ap nodes-first (entries-written _ (all-entries net) (all-good net sound) (omega arith)) ∙ written-nodes-first (net .prizes) (net .edges),
     )

@@ -101,6 +101,6 @@ edge-parsed e rest w =
     ap (parsed-behind []) whole
     ∙ tab-read [] (83 ∷ 9 ∷ a) a refl
     ∙ edge-accepted a b (fa .1) c (fb .1) d (fc .1) rest (e .first) (e .second) (e .cost) (e .code)
-        (ap is-number (fa .0) ∙ decimal-number (e .first) (w .first)) (ap is-number (fb .0) ∙ decimal-number (e .second) (w .second)) (ap is-number (fc .0) ∙ decimal-number (e .cost) (w .cost))
-        (decimal-says (e .first) (w .first) ∙ ap value-of (sym (fa .0))) (decimal-says (e .second) (w .second) ∙ ap value-of (sym (fb .0))) (decimal-says (e .cost) (w .cost) ∙ ap value-of (sym (fc .0)))
-        (sym (fd .0)) (fd .1)
+    (ap is-number (fa .0) ∙ decimal-number (e .first) (w .first)) (ap is-number (fb .0) ∙ decimal-number (e .second) (w .second)) (ap is-number (fc .0) ∙ decimal-number (e .cost) (w .cost))
+    (decimal-says (e .first) (w .first) ∙ ap value-of (sym (fa .0))) (decimal-says (e .second) (w .second) ∙ ap value-of (sym (fb .0))) (decimal-says (e .cost) (w .cost) ∙ ap value-of (sym (fc .0)))
+    (sym (fd .0)) (fd .1)

@@ -10,6 +10,6 @@ mod writer;
 
 use field::Field;
 pub use loader::SheetLoader;
-pub use writer::write_sheet;
 use reader::Reader;
 use record::Record;
+pub use writer::write_sheet;

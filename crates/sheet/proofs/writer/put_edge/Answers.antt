@@ -36,12 +36,12 @@ pub returns : need.returns
 returns c =
     let text = c .text .ensures in
     let w = edge-wrote (c .args .out .now) (c .args .place) (link-of (c .args .edge .now)) (c .pre)
-        (c .put-first .last .out) (c .put-field-second .last .out) (c .put-field-cost .last .out) (c .put-field-code .last .out) (c .put-end .last .out) (c .put .last .out)
-        (c .put-first .result) (c .put-field-second .result) (c .put-field-cost .result) (c .put-field-code .result) (c .put-end .result) (c .put .result)
-        (c .put-first .ensures .after) (c .put-first .ensures .end)
-        (c .put-field-second .ensures .after) (c .put-field-second .ensures .end)
-        (c .put-field-cost .ensures .after) (c .put-field-cost .ensures .end)
-        (c .put-field-code .ensures .after) (c .put-field-code .ensures .end)
-        (c .put-end .ensures .after ∙ ap (laid (c .put-field-code .last .out) (c .put-field-code .result)) text) (c .put-end .ensures .end ∙ ap (λ l. c .put-field-code .result + length l) text)
-        (c .put .ensures .after) (c .put .ensures .end) in
+    (c .put-first .last .out) (c .put-field-second .last .out) (c .put-field-cost .last .out) (c .put-field-code .last .out) (c .put-end .last .out) (c .put .last .out)
+    (c .put-first .result) (c .put-field-second .result) (c .put-field-cost .result) (c .put-field-code .result) (c .put-end .result) (c .put .result)
+    (c .put-first .ensures .after) (c .put-first .ensures .end)
+    (c .put-field-second .ensures .after) (c .put-field-second .ensures .end)
+    (c .put-field-cost .ensures .after) (c .put-field-cost .ensures .end)
+    (c .put-field-code .ensures .after) (c .put-field-code .ensures .end)
+    (c .put-end .ensures .after ∙ ap (laid (c .put-field-code .last .out) (c .put-field-code .result)) text) (c .put-end .ensures .end ∙ ap (λ l. c .put-field-code .result + length l) text)
+    (c .put .ensures .after) (c .put .ensures .end) in
     record { end = w .ends; after = w .after }
