@@ -4,7 +4,7 @@ use Prim.Native.Nat.{ℕ}
 use lib.Chars.{codes}
 use Rattle.std.specs.Written.{decimal}
 use Rattle.refusal.specs.declared.Refusal.{Refusal}
-use Rattle.refusal.specs.declared.Refusal.the-variants.{NodesFull, EdgesFull, AmountTooLarge, UnknownNode, EqualEnds, BadCode, ListTooShort, HeapFull, LineForm, LineEntry}
+use Rattle.refusal.specs.declared.Refusal.the-variants.{NodesFull, EdgesFull, AmountTooLarge, UnknownNode, EqualEnds, BadCode, EventOutOfRange, ListTooShort, HeapFull, LineForm, LineEntry}
 
 abbrev pub refusal-number : Refusal → ℕ
 refusal-number NodesFull = 1
@@ -13,6 +13,7 @@ refusal-number AmountTooLarge = 3
 refusal-number UnknownNode = 4
 refusal-number EqualEnds = 5
 refusal-number BadCode = 6
+refusal-number EventOutOfRange = 7
 refusal-number ListTooShort = 12
 refusal-number HeapFull = 13
 refusal-number (LineForm line) = 14
@@ -26,6 +27,7 @@ refusal-line AmountTooLarge = 0
 refusal-line UnknownNode = 0
 refusal-line EqualEnds = 0
 refusal-line BadCode = 0
+refusal-line EventOutOfRange = 0
 refusal-line ListTooShort = 0
 refusal-line HeapFull = 0
 refusal-line (LineForm line) = line

@@ -1,0 +1,4 @@
+-- The meaning of an event queue.
+pub mod Tables
+pub mod Timed
+pub mod Draining
