@@ -1,0 +1,13 @@
+pub mod Sums
+pub mod Nets
+pub mod Clusters
+pub mod Trees
+pub mod Due
+pub mod Growth
+pub mod Numbers
+pub mod Prune
+pub mod Strong
+pub mod Laws
+pub mod ByNumber
+pub mod Worked
+pub mod Instances
