@@ -47,7 +47,7 @@ pub impl EventQueue for FlatQueue as FlatEventQueue {
 }
 
 // The first entry of a table.
-pub fn look_through(times: &[Option<u64>]) -> Option<(u64, usize)>
+pub(crate) fn look_through(times: &[Option<u64>]) -> Option<(u64, usize)>
     ensures { λ r. ⌜ r ≡ first-entry (now (times .entry)) ⌝ }
 {
     let mut found = None;
