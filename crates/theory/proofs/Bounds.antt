@@ -2,8 +2,8 @@
 use mathlib.Core.Path.{_≡_, sym, _∙_, ap}
 use mathlib.Core.List.{List}
 use mathlib.Core.Bool.{Bool, true, false, cond}
-use mathlib.Core.Logic.{inl, inr}
-use Prim.Native.Nat.{ℕ, zero, suc, _+_, _-_, _*_, _≤_}
+use mathlib.Core.Logic.{inl, inr, _≢_}
+use Prim.Native.Nat.{ℕ, zero, suc, _+_, _-_, _*_, _≤_, _<_}
 use native.Mathlib.Omega.{arith}
 use lib.Dec.{eqb}
 use lib.ListN.{length, getD}
@@ -11,7 +11,7 @@ use Rattle.std.specs.declared.option.Option.the-variants.{Some, None}
 use Rattle.std.proofs.shelf.Tests.{ne-eqb, cases-bool, cases-eq, cases-lt, cond-false}
 use Rattle.network.specs.Nets.{Net}
 use Rattle.theory.specs.Sums.{sumTo, one}
-use Rattle.theory.specs.Nets.{node-count, first-end, second-end, doubled-prize}
+use Rattle.theory.specs.Nets.{node-count, edge-count, first-end, second-end, doubled-prize}
 use Rattle.theory.specs.Clusters.{Cluster, Slot, moat, cluster-active, holds, over, inner, Deep, over-maximal, depth}
 use Rattle.theory.specs.Clusters.Cluster.{node, merged}
 use Rattle.theory.specs.Clusters.Slot.{maximal, inside}
@@ -27,7 +27,7 @@ use Rattle.theory.proofs.Laminar.{deep-both}
 use Rattle.theory.proofs.Invariant.{Made, Inv}
 use Rattle.theory.proofs.Valid.{Fine}
 use Rattle.theory.proofs.Table.{table-length, table-cluster, table-edge, table-past, maximal-of-is, active-at-is, edge-due-none}
-use Rattle.theory.proofs.Steps.{Ends, ends-of, owned, sits, even-slack, due-cluster, not-some, Meeting, meeting}
+use Rattle.theory.proofs.Steps.{edge-depths, Ends, ends-of, owned, sits, even-slack, due-cluster, not-some, Meeting, meeting}
 use Rattle.theory.proofs.Steps.Meeting.{both-active, first-active, second-active}
 use Rattle.theory.proofs.Runs.{kept, counted}
 use Rattle.theory.proofs.Lower.{lower-any}
@@ -152,6 +152,23 @@ module _ (net : Net) (f : Fine net) (k : ℕ) where
           by (first-active a b is) = let x = time-small in let y = f .costs s in (omega arith, omega arith)
           by (second-active a b is) = let x = time-small in let y = f .costs s in (omega arith, omega arith)
 
+  -- an edge between two maximal clusters
+  ends : (s : ℕ) → s < edge-count net → maximal-of (grow net k .slots) (first-end net s) ≢ maximal-of (grow net k .slots) (second-end net s) →
+      (x : Ends net (grow net k .slots) s) × (maximal-of (grow net k .slots) (first-end net s) ≡ x .p) × (maximal-of (grow net k .slots) (second-end net s) ≡ x .q) × (x .p ≢ x .q)
+  ends s l ne =
+      let x = ends-of net f (st .time) ts h s l in
+      let at-p = maximal-of-is (node-count net) ts (h .shared) (x .p) (x .l) (first-end net s) (x .pl) (x .la) in
+      let at-q = maximal-of-is (node-count net) ts (h .shared) (x .q) (x .r) (second-end net s) (x .qr) (x .rb) in
+      (x, at-p, at-q, λ e. ne (at-p ∙ e ∙ sym at-q))
+
+  pub even : Even-slack net (grow net k)
+  even s l ne a b =
+      let y = ends s l ne in
+      let x = y .0 in
+      even-slack net f (st .time) ts h s l x (y .3)
+      (sym (active-at-is (node-count net) ts (h .shared) (x .p) (x .l) (x .pl)) ∙ ap (active-at ts) (sym (y .1)) ∙ a)
+      (sym (active-at-is (node-count net) ts (h .shared) (x .q) (x .r) (x .qr)) ∙ ap (active-at ts) (sym (y .2)) ∙ b)
+
   pub small : Small net (grow net k)
   small = record {
     clusters = let a = h .sized in let b = f .few-nodes in few a b;
@@ -161,6 +178,8 @@ module _ (net : Net) (f : Fine net) (k : ℕ) where
         deep-weaker (λ u. Made net u × (over P u ≤ over P t)) (λ u. (moat u ≤ inner u) × (inner u ≤ over P u) × (over P u ≤ 512000000000))
         (λ u x. (moat-inner u, x .0 .0, (let a = maximal-small c t e in let b = x .1 in omega arith))) t
         (deep-both (Made net) (λ u. over P u ≤ over P t) t (maximal-all (Deep (Made net)) ts c t (h .made) e) (over-parts P t)));
+    surpluses = owned net f (st .time) ts h;
+    slacks = λ s l ne. let y = ends s l ne in edge-depths net f (st .time) ts h s l (y .0) (y .3);
     moats = total-small;
     ahead = ahead;
     table = table-length net (st .time) ts;
@@ -175,18 +194,6 @@ module _ (net : Net) (f : Fine net) (k : ℕ) where
             omega arith
         | inr l ↦ omega arith
       ]
-
-  pub even : Even-slack net (grow net k)
-  even s l ne a b = even-slack net f (st .time) ts h s l x (λ e. ne (at-p ∙ e ∙ sym at-q)) (sym (active-at-is (node-count net) ts (h .shared) (x .p) (x .l) (x .pl)) ∙ ap (active-at ts) (sym at-p) ∙ a) (sym (active-at-is (node-count net) ts (h .shared) (x .q) (x .r) (x .qr)) ∙ ap (active-at ts) (sym at-q) ∙ b)
-    where
-      x : Ends net ts s
-      x = ends-of net f (st .time) ts h s l
-
-      at-p : maximal-of ts (first-end net s) ≡ x .p
-      at-p = maximal-of-is (node-count net) ts (h .shared) (x .p) (x .l) (first-end net s) (x .pl) (x .la)
-
-      at-q : maximal-of ts (second-end net s) ≡ x .q
-      at-q = maximal-of-is (node-count net) ts (h .shared) (x .q) (x .r) (second-end net s) (x .qr) (x .rb)
 
   pub tree-at-least : Every-tree-at-least net k
   tree-at-least N E tree =

@@ -1,9 +1,10 @@
 -- The laws, for every valid network and every number of steps.
 use Prim.Native.Nat.{_≤_}
+use native.Mathlib.Omega.{arith}
 use Rattle.theory.specs.Nets.{doubled-prize, node-count}
 use Rattle.theory.specs.Clusters.{over, inner}
 use Rattle.theory.specs.Growth.{grow}
-use Rattle.theory.specs.Laws.{Laminar-holds, Nodes-shared, Edge-loads-hold, Inner-moats-hold, Accepted-exactly-holds, Ends-in-time-holds, Slack-is-even, Numbers-stay-small, Due-times-kept, Lower-bound-any, Lower-bound-holds, Plan-is-a-tree, Plan-within-twice, Grown-tree-hangs, Strong-plan-is-a-tree, Strong-plan-best, Laws-hold}
+use Rattle.theory.specs.Laws.{Pruning-ends, Plan-against-every-tree, Laminar-holds, Nodes-shared, Edge-loads-hold, Inner-moats-hold, Accepted-exactly-holds, Ends-in-time-holds, Slack-is-even, Numbers-stay-small, Due-times-kept, Lower-bound-any, Lower-bound-holds, Plan-is-a-tree, Plan-within-twice, Grown-tree-hangs, Strong-plan-is-a-tree, Strong-plan-best, Laws-hold}
 use Rattle.theory.specs.ByNumber.{Start-by-number, Formed-by-number, Step-by-number}
 use Rattle.theory.proofs.Families.{every-weaker}
 use Rattle.theory.proofs.Invariant.{Made}
@@ -57,8 +58,17 @@ lower-bound-holds net v k = tree-at-least net (fine net v) k
 pub plan-is-a-tree : Plan-is-a-tree
 plan-is-a-tree net v k = Plan.plan-is-a-tree net (fine net v) k
 
+pub pruning-ends : Pruning-ends
+pruning-ends net v k = Plan.pruning-ends net (fine net v) k
+
 pub plan-within-twice : Plan-within-twice
 plan-within-twice net v k = Plan.plan-within-twice net (fine net v) k
+
+pub plan-against-every-tree : Plan-against-every-tree
+plan-against-every-tree net v k some over′ N E tree =
+    let a = plan-within-twice net v k some over′ in
+    let b = lower-bound-holds net v k N E tree in
+    omega arith
 
 pub grown-tree-hangs : Grown-tree-hangs
 grown-tree-hangs net v k = Strong.grown-hung net (fine net v) k

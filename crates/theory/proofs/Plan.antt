@@ -16,7 +16,7 @@ use Rattle.theory.specs.Clusters.Slot.{maximal, inside}
 use Rattle.theory.specs.Trees.{Tree, tree-cost, lost}
 use Rattle.theory.specs.Growth.{grow, active-count, ended}
 use Rattle.theory.specs.Prune.{edges-within, degree, pruned, plan}
-use Rattle.theory.specs.Laws.{Plan-tree, Within-twice}
+use Rattle.theory.specs.Laws.{Pruned-out, Plan-tree, Within-twice}
 use Rattle.theory.proofs.Bools.{only, one-true, one-false, one-is, same-true, same-false, flip}
 use Rattle.theory.proofs.Sums.{sumTo-le, sumTo-none, sumTo-single, sumTo-scale, sumTo-double, sumTo-double-not}
 use Rattle.theory.proofs.Families.{deep-head, deep-weaker, all-same, all-sumTo, maximal-le, all-plus}
@@ -234,6 +234,9 @@ module _ (net : Net) (f : Fine net) (k : ℕ) (some : 1 ≤ node-count net) (ove
 
   pub plan-is-a-tree : Plan-tree net (plan net (grow net k))
   plan-is-a-tree = plan-tree net (pruned net ts) (edges-within net ts (pruned net ts)) (tree net ts end (pruned net ts) (pruned-done net ts end .0))
+
+  pub pruning-ends : Pruned-out net (grow net k)
+  pruning-ends = pruned-done net ts end .1
 
   pub plan-within-twice : Within-twice net (grow net k)
   plan-within-twice =

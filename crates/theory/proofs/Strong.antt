@@ -9,6 +9,7 @@ use lib.Dec.{eqb, ltb}
 use Rattle.std.specs.declared.option.Option.{Option}
 use Rattle.std.specs.declared.option.Option.the-variants.{Some, None}
 use Rattle.std.proofs.shelf.Tests.{eqb-true, eq-eqb, or-left, or-right, or-cases, and-parts, and-from, cases-bool, cases-eq, cases-lt, both-ways, cond-true, cond-false, ltb-true, ltb-false, and-cases}
+use Rattle.std.specs.shelf.Lists.{All}
 use Rattle.network.specs.Nets.{Net}
 use Rattle.theory.specs.Sums.{sumOf, sumTo}
 use Rattle.theory.specs.Nets.{node-count, edge-count, prize, first-end, second-end, cost}
@@ -150,19 +151,6 @@ module _ (net : Net) (ts : List Slot) (x : Last net ts) where
   best-is : Greatest (grown-node ts) (net-worth net ts) (root-of net ts) (root-is .0) (root-is .1) (node-count net)
   best-is = greatest-is M W root (root-is .0) (root-is .1) (node-count net)
 
-  pub hung-tree : Hung-tree net ts
-  hung-tree = record {
-    root-in = root-is .0;
-    root-lowest = root-is .1;
-    hangs = hang;
-    nodes = nodes-are;
-    edges = edges-are;
-    worth = equation net F root bs hang (prize net);
-    best-in = best-is .passes;
-    best = λ v k. best-is .most v (grown-tree .nodes v k) k;
-    best-lowest = λ v k e. best-is .least v (grown-tree .nodes v k) k e;
-  }
-
   abbrev K : ℕ → Bool
   K = strong-nodes net ts
 
@@ -174,6 +162,31 @@ module _ (net : Net) (ts : List Slot) (x : Last net ts) where
 
   K-best : strong-nodes net ts (best-node net ts) ≡ true
   K-best = kept-self net F root W h bs hang (nodes-are h ∙ best-is .passes)
+
+  -- which branches stay
+  branches-kept : (cs : List Branch) → Hang net (grown-edge net ts) (root-of net ts) cs → ((v : ℕ) → hung (root-of net ts) cs v ≡ true → strong-nodes net ts v ≡ kept net (net-worth net ts) (root-of net ts) (best-node net ts) cs v) →
+      All (λ b. strong-nodes net ts (b .child) ≡ (eqb (b .child) (best-node net ts) || (strong-nodes net ts (b .parent) && ltb (cost net (b .edge)) (net-worth net ts (b .child))))) cs
+  branches-kept [] w a = tt
+  branches-kept (b ∷ cs) w a =
+      let old : (v : ℕ) → hung root cs v ≡ true → K v ≡ kept net W root h cs v = λ v i. a v (or-right (eqb v (b .child)) _ i) ∙ kept-old net F root W h b cs w v i in (
+        a (b .child) (or-left (eqb (b .child) (b .child)) _ (eq-eqb (b .child) (b .child) refl)) ∙ kept-new net F root W h b cs ∙ ap (λ z. eqb (b .child) h || (z && ltb (cost net (b .edge)) (W (b .child)))) (sym (old (b .parent) (w .0))),
+        branches-kept cs (w .4) old,
+      )
+
+  pub hung-tree : Hung-tree net ts
+  hung-tree = record {
+    root-in = root-is .0;
+    root-lowest = root-is .1;
+    hangs = hang;
+    nodes = nodes-are;
+    edges = edges-are;
+    worth = equation net F root bs hang (prize net);
+    best-in = best-is .passes;
+    best = λ v k. best-is .most v (grown-tree .nodes v k) k;
+    best-lowest = λ v k e. best-is .least v (grown-tree .nodes v k) k e;
+    best-kept = K-best;
+    branches-kept = branches-kept bs hang (λ v i. refl);
+  }
 
   abbrev EK : ℕ → Bool
   EK = edges-within net ts (strong-nodes net ts)

@@ -1,16 +1,14 @@
 -- The laws' hypotheses are met: the chain of the worked networks, before its first step and at its end.
 use mathlib.Core.Path.{_≡_}
-use mathlib.Core.Logic.{_≢_}
-use mathlib.Core.Bool.{Bool, true, false}
-use Prim.Native.Nat.{ℕ, _+_, _*_, _<_}
+use mathlib.Core.Bool.{true, false}
+use Prim.Native.Nat.{_+_, _*_}
 use lib.ListN.{getD}
-use Rattle.std.specs.declared.option.Option.{Option}
 use Rattle.std.specs.declared.option.Option.the-variants.{Some, None}
 use Rattle.network.specs.Nets.{Net, valid}
 use Rattle.theory.specs.Nets.{first-end, second-end}
-use Rattle.theory.specs.Trees.{Tree, tree-cost, lost}
+use Rattle.theory.specs.Trees.{Tree}
 use Rattle.theory.specs.Due.{earliest, maximal-of, active-at, slack, due-times, among, event-clusters}
-use Rattle.theory.specs.Growth.{State, start, ended, grow, lower-bound}
+use Rattle.theory.specs.Growth.{start, ended, grow, lower-bound}
 use Rattle.theory.specs.Prune.{marked, plan}
 use Rattle.theory.specs.Worked.{chain}
 

@@ -1,21 +1,23 @@
 -- The laws of growth.
 use mathlib.Core.Path.{_≡_}
-use mathlib.Core.Bool.{Bool, true, false, cond}
+use mathlib.Core.Bool.{Bool, true, false, cond, _||_, _&&_}
 use mathlib.Core.List.{List}
 use mathlib.Core.Logic.{_≢_}
 use Prim.Native.Nat.{ℕ, suc, _+_, _-_, _*_, _%_, _≤_, _<_}
-use lib.Dec.{eqb}
+use lib.Dec.{eqb, ltb}
 use lib.ListN.{length, getD}
+use Rattle.std.specs.shelf.Lists.{All}
 use Rattle.std.specs.declared.option.Option.{Option}
 use Rattle.std.specs.declared.option.Option.the-variants.{Some, None}
 use Rattle.network.specs.Nets.{Net, valid}
 use Rattle.theory.specs.Nets.{node-count, edge-count, prize, cost, first-end, second-end, doubled-prize, doubled-cost}
 use Rattle.theory.specs.Clusters.{Cluster, Slot, moat, holds, over, inner, over-all, Every, depth, load, Shared}
+use Rattle.theory.specs.Clusters.Slot.{maximal, inside}
 use Rattle.theory.specs.Trees.{Tree, Cut, tree-cost, lost}
 use Rattle.theory.specs.Sums.{sumOf}
 use Rattle.theory.specs.Due.{earliest, maximal-of, active-at, slack, due-times, among, event-clusters}
-use Rattle.theory.specs.Prune.{grown-node, grown-edge, Plan, marked, plan}
-use Rattle.theory.specs.Strong.{hung, lists, Hang, root-of, branches, net-worth, best-node, strong-plan}
+use Rattle.theory.specs.Prune.{grown-node, edges-within, grown-edge, prunable, pruned, Plan, marked, plan}
+use Rattle.theory.specs.Strong.{hung, lists, Hang, root-of, branches, net-worth, best-node, strong-nodes, strong-plan}
 use Rattle.theory.specs.Growth.{State, active-count, ended, step, grow, total, lower-bound}
 
 -- no edge carries more than its doubled cost
@@ -70,11 +72,19 @@ pub record Answers (net : Net) (p : Plan) : Type 0 where
 abbrev pub Plan-tree : Net → Plan → Type 0
 Plan-tree net p = Tree net (marked (p .node-marks)) (marked (p .edge-marks)) × Answers net p
 
+-- pruning has gone on to the end: no cluster is prunable any more
+abbrev pub Pruned-out : Net → State → Type 0
+Pruned-out net st = Every (λ u. prunable net (edges-within net (st .slots) (pruned net (st .slots))) u ≡ false) (st .slots)
+
 -- the plan's cost with twice its lost prizes is within the lower bound in half units: within twice the bound
 abbrev pub Within-twice : Net → State → Type 0
 Within-twice net st = plan net st .plan-cost + 2 * plan net st .plan-lost ≤ lower-bound st
 
--- the grown tree hung from its lowest-numbered node, with the equation of net worths, and the node of greatest net worth, the lowest-numbered among equals
+-- so it is within twice the cost with lost prizes of every tree
+abbrev pub Twice-every-tree : Net → State → Type 0
+Twice-every-tree net st = (N E : ℕ → Bool) → Tree net N E → plan net st .plan-cost + 2 * plan net st .plan-lost ≤ 2 * (tree-cost net E + lost net N)
+
+-- the grown tree hung from its lowest-numbered node, with the equation of net worths; the node of greatest net worth, the lowest-numbered among equals; and what stays below it
 pub record Hung-tree (net : Net) (ts : List Slot) : Type 0 where
   pub root-in : grown-node ts (root-of net ts) ≡ true
   pub root-lowest : (v : ℕ) → grown-node ts v ≡ true → root-of net ts ≤ v
@@ -85,6 +95,8 @@ pub record Hung-tree (net : Net) (ts : List Slot) : Type 0 where
   pub best-in : grown-node ts (best-node net ts) ≡ true
   pub best : (v : ℕ) → grown-node ts v ≡ true → net-worth net ts v ≤ net-worth net ts (best-node net ts)
   pub best-lowest : (v : ℕ) → grown-node ts v ≡ true → net-worth net ts v ≡ net-worth net ts (best-node net ts) → best-node net ts ≤ v
+  pub best-kept : strong-nodes net ts (best-node net ts) ≡ true
+  pub branches-kept : All (λ b. strong-nodes net ts (b .child) ≡ (eqb (b .child) (best-node net ts) || (strong-nodes net ts (b .parent) && ltb (cost net (b .edge)) (net-worth net ts (b .child))))) (branches net ts)
 
 -- the strong plan is a tree cut from the grown tree
 abbrev pub Strong-tree : Net → State → Type 0
@@ -110,12 +122,15 @@ most-prizes = 512000000000
 abbrev pub most-due : ℕ
 most-due = 514000000000
 
--- how large numbers get: all are far below 2^63
+-- how large numbers get, all far below 2^63, and that no difference is cut off at 0
 pub record Small (net : Net) (st : State) : Type 0 where
   pub clusters : length (st .slots) ≤ 511
   pub time : st .time ≤ most-prizes
   pub depths : (v : ℕ) → depth (st .slots) v ≤ st .time
   pub inners : Every (λ u. (moat u ≤ inner u) × (inner u ≤ over (doubled-prize net) u) × (over (doubled-prize net) u ≤ most-prizes)) (st .slots)
+  pub surpluses : (c : ℕ) (t : Cluster) → getD (st .slots) c inside ≡ maximal t → inner t ≤ over (doubled-prize net) t
+  pub slacks : (s : ℕ) → s < edge-count net → maximal-of (st .slots) (first-end net s) ≢ maximal-of (st .slots) (second-end net s) →
+      depth (st .slots) (first-end net s) + depth (st .slots) (second-end net s) ≤ doubled-cost net s
   pub moats : total st ≤ most-prizes
   pub ahead : st .time ≤ total st
   pub table : length (due-times net (st .time) (st .slots)) ≡ 1535
@@ -181,8 +196,14 @@ Lower-bound-holds = Always Every-tree-at-least
 abbrev pub Plan-is-a-tree : Type 0
 Plan-is-a-tree = Always (At-end (λ net st. Plan-tree net (plan net st)))
 
+abbrev pub Pruning-ends : Type 0
+Pruning-ends = Always (At-end Pruned-out)
+
 abbrev pub Plan-within-twice : Type 0
 Plan-within-twice = Always (At-end Within-twice)
+
+abbrev pub Plan-against-every-tree : Type 0
+Plan-against-every-tree = Always (At-end Twice-every-tree)
 
 abbrev pub Grown-tree-hangs : Type 0
 Grown-tree-hangs = Always (At-end (λ net st. Hung-tree net (st .slots)))

@@ -1,5 +1,5 @@
 // The theory of growth: its definitions stand in specs/, and each function's contract is a law of them.
-ghost use Rattle.theory.specs.Laws.{Laminar-holds, Nodes-shared, Edge-loads-hold, Inner-moats-hold, Accepted-exactly-holds, Ends-in-time-holds, Slack-is-even, Numbers-stay-small, Due-times-kept, Lower-bound-any, Lower-bound-holds, Plan-is-a-tree, Plan-within-twice, Grown-tree-hangs, Strong-plan-is-a-tree, Strong-plan-best, Laws-hold};
+ghost use Rattle.theory.specs.Laws.{Laminar-holds, Nodes-shared, Edge-loads-hold, Inner-moats-hold, Accepted-exactly-holds, Ends-in-time-holds, Slack-is-even, Numbers-stay-small, Due-times-kept, Lower-bound-any, Lower-bound-holds, Plan-is-a-tree, Pruning-ends, Plan-within-twice, Plan-against-every-tree, Grown-tree-hangs, Strong-plan-is-a-tree, Strong-plan-best, Laws-hold};
 ghost use Rattle.theory.specs.ByNumber.{Start-by-number, Formed-by-number, Step-by-number};
 ghost use Rattle.theory.specs.Instances.{Laws-not-empty};
 ghost use Rattle.theory.specs.Worked.{Worked-networks};
@@ -88,9 +88,23 @@ pub fn plan_is_a_tree() -> u8
     0
 }
 
+// Pruning goes on until no cluster is prunable.
+pub fn pruning_ends() -> u8
+    ensures { λ _. ⌜ Pruning-ends ⌝ }
+{
+    0
+}
+
 // The plan's cost with twice its lost prizes is within the lower bound in half units.
 pub fn plan_within_twice() -> u8
     ensures { λ _. ⌜ Plan-within-twice ⌝ }
+{
+    0
+}
+
+// The plan's cost with twice its lost prizes is within twice the cost with lost prizes of every tree.
+pub fn plan_against_every_tree() -> u8
+    ensures { λ _. ⌜ Plan-against-every-tree ⌝ }
 {
     0
 }
