@@ -1,0 +1,5 @@
+pub mod Records
+pub mod NodeTables
+pub mod Shown
+pub mod Moats
+pub mod Sums

@@ -1,0 +1,9 @@
+pub mod Links
+pub mod Totals
+pub mod Lowest
+pub mod Marking
+pub mod Hung
+pub mod Rooting
+pub mod Lifting
+pub mod Kept
+pub mod Writing
