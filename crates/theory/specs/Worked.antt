@@ -3,17 +3,19 @@ use mathlib.Core.Path.{_≡_}
 use mathlib.Core.Bool.{true, false}
 use mathlib.Core.List.{List, [], _∷_, map}
 use Prim.Native.Nat.{ℕ, zero, suc, _*_}
+use lib.ListN.{replicate}
 use Rattle.std.specs.declared.option.Option.{Option}
 use Rattle.std.specs.declared.option.Option.the-variants.{Some, None}
-use Rattle.network.specs.Nets.{Net, Link}
-use Rattle.theory.specs.Nets.{node-count}
+use Rattle.network.specs.Nets.{Net, link}
+use Rattle.worklist.specs.WorkLists.{work-list}
+use Rattle.theory.specs.Nets.{node-count, edge-count}
 use Rattle.theory.specs.Due.{earliest, due-times}
 use Rattle.theory.specs.Growth.{State, start, ended, step, total, lower-bound}
 use Rattle.theory.specs.Prune.{Plan, plan}
 use Rattle.theory.specs.Prune.Coverage.{whole, alone, part}
 use Rattle.theory.specs.Strong.{strong-plan}
 
--- what growth to the end gives: the events, each as time and number, the accepted steps, the total of moats, the lower bound, both plans
+-- what growth to the end gives: the events, each as time and number, the accepted steps, the total of moats, the lower bound, both plans; and the work list of all edges
 pub record Outcome : Type 0 where
   pub events : List (ℕ × ℕ)
   pub steps : ℕ
@@ -21,6 +23,7 @@ pub record Outcome : Type 0 where
   pub bound : ℕ
   pub pruned : Plan
   pub strong : Plan
+  pub all-listed : List ℕ
 
 -- one event more
 abbrev pub event : Option (ℕ × ℕ) → List (ℕ × ℕ) → List (ℕ × ℕ)
@@ -29,7 +32,7 @@ event (Some e) es = e ∷ es
 
 -- the outcome of a state, after the events es
 abbrev pub outcome-at : List (ℕ × ℕ) → Net → State → Outcome
-outcome-at es net st = record { events = es; steps = st .steps; moats = total st; bound = lower-bound st; pruned = plan net st; strong = strong-plan net st }
+outcome-at es net st = record { events = es; steps = st .steps; moats = total st; bound = lower-bound st; pruned = plan net st; strong = strong-plan net st; all-listed = work-list net (replicate (edge-count net) 1) }
 
 -- grows on from a state, at most k steps, after the events es, the last first
 abbrev pub outcome-from : ℕ → List (ℕ × ℕ) → Net → State → Outcome
@@ -47,10 +50,6 @@ outcome net = outcome-from (2 * node-count net) [] net (start net)
 pub record Row : Type 0 where
   pub network : Net
   pub comes-out : Outcome
-
--- an edge with its ends, cost and code
-abbrev link : ℕ → ℕ → ℕ → List ℕ → Link
-link a b c code = record { first = a; second = b; cost = c; code = code }
 
 -- the codes A1, A2, A10 and B1
 abbrev A1 : List ℕ
@@ -76,6 +75,7 @@ one-node = record {
     bound = 0;
     pruned = record { node-marks = 1 ∷ []; edge-marks = []; plan-cost = 0; plan-lost = 0; status = whole };
     strong = record { node-marks = 1 ∷ []; edge-marks = []; plan-cost = 0; plan-lost = 0; status = whole };
+    all-listed = [];
   };
 }
 
@@ -90,6 +90,7 @@ two-apart = record {
     bound = 10;
     pruned = record { node-marks = 0 ∷ 1 ∷ []; edge-marks = []; plan-cost = 0; plan-lost = 5; status = alone };
     strong = record { node-marks = 0 ∷ 1 ∷ []; edge-marks = []; plan-cost = 0; plan-lost = 5; status = alone };
+    all-listed = [];
   };
 }
 
@@ -108,6 +109,7 @@ merged-pair = record {
     bound = 5;
     pruned = record { node-marks = 1 ∷ 1 ∷ []; edge-marks = 1 ∷ []; plan-cost = 5; plan-lost = 0; status = whole };
     strong = record { node-marks = 1 ∷ 0 ∷ []; edge-marks = 0 ∷ []; plan-cost = 0; plan-lost = 3; status = alone };
+    all-listed = 0 ∷ [];
   };
 }
 
@@ -122,6 +124,7 @@ dearer-pair = record {
     bound = 6;
     pruned = record { node-marks = 1 ∷ 0 ∷ []; edge-marks = 0 ∷ []; plan-cost = 0; plan-lost = 3; status = alone };
     strong = record { node-marks = 1 ∷ 0 ∷ []; edge-marks = 0 ∷ []; plan-cost = 0; plan-lost = 3; status = alone };
+    all-listed = 0 ∷ [];
   };
 }
 
@@ -136,6 +139,7 @@ free-pair = record {
     bound = 0;
     pruned = record { node-marks = 0 ∷ 1 ∷ []; edge-marks = 0 ∷ []; plan-cost = 0; plan-lost = 0; status = whole };
     strong = record { node-marks = 0 ∷ 1 ∷ []; edge-marks = 0 ∷ []; plan-cost = 0; plan-lost = 0; status = whole };
+    all-listed = 0 ∷ [];
   };
 }
 
@@ -150,6 +154,7 @@ chain = record {
     bound = 100;
     pruned = record { node-marks = 0 ∷ 0 ∷ 0 ∷ 1 ∷ 1 ∷ []; edge-marks = 0 ∷ 0 ∷ 0 ∷ 1 ∷ []; plan-cost = 90; plan-lost = 5; status = part };
     strong = record { node-marks = 0 ∷ 0 ∷ 0 ∷ 1 ∷ 1 ∷ []; edge-marks = 0 ∷ 0 ∷ 0 ∷ 1 ∷ []; plan-cost = 90; plan-lost = 5; status = part };
+    all-listed = 0 ∷ 3 ∷ 1 ∷ 2 ∷ [];
   };
 }
 
@@ -167,6 +172,7 @@ ring-and-hub = record {
     bound = 60;
     pruned = record { node-marks = 1 ∷ 1 ∷ 1 ∷ 1 ∷ 0 ∷ []; edge-marks = 1 ∷ 1 ∷ 1 ∷ 0 ∷ 0 ∷ 0 ∷ 0 ∷ []; plan-cost = 60; plan-lost = 0; status = whole };
     strong = record { node-marks = 1 ∷ 0 ∷ 0 ∷ 0 ∷ 0 ∷ []; edge-marks = 0 ∷ 0 ∷ 0 ∷ 0 ∷ 0 ∷ 0 ∷ 0 ∷ []; plan-cost = 0; plan-lost = 45; status = alone };
+    all-listed = 0 ∷ 1 ∷ 2 ∷ 3 ∷ 4 ∷ 5 ∷ 6 ∷ [];
   };
 }
 
