@@ -95,9 +95,12 @@ laws-hold net v k = record {
   inner-moats = inner-moats-hold net v k;
   accepted-exactly = accepted-exactly-holds net v k;
   ends-in-time = ends-in-time-holds net v k;
+  even-slack = slack-is-even net v k;
+  small-numbers = numbers-stay-small net v k;
   every-tree-at-least = lower-bound-holds net v k;
   plan-is-a-tree = plan-is-a-tree net v k;
   plan-within-twice = plan-within-twice net v k;
   strong-plan-is-a-tree = strong-plan-is-a-tree net v k;
   strong-plan-best = strong-plan-best net v k;
+  net-worths = grown-tree-hangs net v k;
 }

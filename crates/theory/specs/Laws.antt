@@ -158,11 +158,14 @@ pub record Laws (net : Net) (k : ℕ) : Type 0 where
   pub inner-moats : Inner-moats net (grow net k .slots)
   pub accepted-exactly : Accepted-exactly net k
   pub ends-in-time : Ends-in-time net k
+  pub even-slack : Even-slack net (grow net k)
+  pub small-numbers : Small net (grow net k)
   pub every-tree-at-least : Every-tree-at-least net k
   pub plan-is-a-tree : At-end (λ n st. Plan-tree n (plan n st)) net k
   pub plan-within-twice : At-end Within-twice net k
   pub strong-plan-is-a-tree : At-end Strong-tree net k
   pub strong-plan-best : At-end Strong-best net k
+  pub net-worths : At-end (λ n st. Hung-tree n (st .slots)) net k
 
 -- each law by itself, of every valid network and every number of steps
 abbrev pub Laminar-holds : Type 0
