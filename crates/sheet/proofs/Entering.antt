@@ -104,7 +104,3 @@ sheet-entry-refused line net (c ∷ cs) rest e why h k =
 pub sheet-form-refused : (line : ℕ) (net : Net) (bs : List ℕ) → is-empty bs ≡ false → parsed-behind [] bs ≡ None → enter-lines (length bs) line net bs ≡ Err (LineForm line)
 sheet-form-refused line net [] some h = absurd (true≢false some)
 sheet-form-refused line net (c ∷ cs) some h = line-refuses line net (first-line (c ∷ cs)) (enter-lines (length cs) (line + 1)) h
-
-pub sheet-ended : (line : ℕ) (net : Net) (bs : List ℕ) → is-empty bs ≡ true → enter-lines (length bs) line net bs ≡ Ok net
-sheet-ended line net [] e = refl
-sheet-ended line net (c ∷ cs) e = absurd (true≢false (sym e))
