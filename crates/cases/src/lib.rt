@@ -1,4 +1,6 @@
 // Worked cases, run as tests: sheets that are taken or refused, entries at the limits, and work lists.
+#![tactic(auto)]
+
 #[cfg(test)]
 mod entries;
 #[cfg(test)]

@@ -1,4 +1,6 @@
 // Growth of moats in a network: start, steps, questions and both prunings.
+#![tactic(auto)]
+
 mod cluster;
 mod dues;
 mod engine;

@@ -185,15 +185,15 @@ fn check_full(rt: &impl Abort, found: &Outcome, full: &Full) -> Result<(), Fail>
 
 #[test]
 fn spread_amounts(rt: HostRuntime) -> Result<(), Fail> {
-    check_full(&rt, &on_both(spread(&rt)?, spread(&rt)?)?, &SPREAD)
+    check_full(&rt, &on_both(&rt, spread(&rt)?, spread(&rt)?)?, &SPREAD)
 }
 
 #[test]
 fn amounts_at_the_limit(rt: HostRuntime) -> Result<(), Fail> {
-    check_full(&rt, &on_both(level(&rt)?, level(&rt)?)?, &LEVEL)
+    check_full(&rt, &on_both(&rt, level(&rt)?, level(&rt)?)?, &LEVEL)
 }
 
 #[test]
 fn most_steps(rt: HostRuntime) -> Result<(), Fail> {
-    check_full(&rt, &on_both(star(&rt)?, star(&rt)?)?, &STAR)
+    check_full(&rt, &on_both(&rt, star(&rt)?, star(&rt)?)?, &STAR)
 }

@@ -1,4 +1,6 @@
 // Worked networks and full-size ones, grown on every event queue; and trees given by marks, pruned.
+#![tactic(auto)]
+
 #[cfg(test)]
 mod chain;
 #[cfg(test)]

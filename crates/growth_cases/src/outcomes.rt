@@ -6,6 +6,7 @@ use network::Network;
 use pruning::Answer;
 use queue::{EventQueue, FlatQueue, HeapQueue, TimedKey};
 use refusal::Refusal;
+use std::process::Abort;
 use std::test::*;
 
 pub(crate) const BLANK: TimedKey = TimedKey { time: 0, number: 0 };
@@ -120,10 +121,10 @@ fn grown<Q: EventQueue + Drop>(network: Network, queue: Q) -> Result<Outcome, Fa
 }
 
 // The outcome of a network, given twice: once for each queue.
-pub(crate) fn on_both(one: Network, other: Network) -> Result<Outcome, Fail> {
+pub(crate) fn on_both(rt: &impl Abort, one: Network, other: Network) -> Result<Outcome, Fail> {
     let flat = grown(one, FlatQueue::open())?;
     let mut keys = [BLANK; 1535];
     let heaped = grown(other, HeapQueue::open(&mut keys))?;
-    assert_eq!(heaped, flat);
+    assert_eq!(rt; heaped, flat);
     Ok(flat)
 }

@@ -126,8 +126,8 @@ fn empty_plays<Q: EventQueue + Drop>(
     let mut growth = Growth::start(network, queue);
     refuses_step(rt, &mut growth, 0)?;
     growth.grow_to_end();
-    check_clusters(&growth, &[])?;
-    check_chosen(&growth, &[])?;
+    check_clusters(rt, &growth, &[])?;
+    check_chosen(rt, &growth, &[])?;
     check_all_refused(rt, &growth, &[(8, 8), (0, 0)], Refusal::NoNode)
 }
 

@@ -3,6 +3,8 @@ use crate::outcomes::{Figures, on_both};
 use network::Network;
 use pruning::{Answer, Coverage};
 use sheet::SheetLoader;
+use std::alloc::AllocGlobal;
+use std::process::Abort;
 use std::test::*;
 
 // A plan is its answer, its nodes' marks and its edges' marks.
@@ -23,10 +25,10 @@ pub(crate) struct Row {
     pub(crate) strong: Kept,
 }
 
-pub(crate) fn load(rt: &HostRuntime, sheet: &[u8]) -> Result<Network, Fail> {
+pub(crate) fn load(rt: &(impl Abort + AllocGlobal), sheet: &[u8]) -> Result<Network, Fail> {
     let mut network = Network::open(rt.alloc())?;
     let mut loader = SheetLoader::open(rt.alloc())?;
-    assert_eq!(loader.read(sheet, &mut network), Ok(()));
+    assert_eq!(rt; loader.read(sheet, &mut network), Ok(()));
     Ok(network)
 }
 
@@ -35,17 +37,17 @@ pub(crate) fn answer((status, cost, lost): (Coverage, u64, u64)) -> Answer {
 }
 
 // Marks stand at the front of a list, and nothing is written behind them.
-pub(crate) fn check_written(list: &[u8], marks: &[u8]) -> Result<(), Fail> {
-    assert!(marks.len() <= list.len());
-    assert_eq!(&list[0..marks.len()], marks);
+pub(crate) fn check_written(rt: &impl Abort, list: &[u8], marks: &[u8]) -> Result<(), Fail> {
+    assert!(rt; marks.len() <= list.len());
+    assert_eq!(rt; &list[0..marks.len()], marks);
     for unwritten in &list[marks.len()..] {
-        assert_eq!(*unwritten, 9);
+        assert_eq!(rt; *unwritten, 9);
     }
     Ok(())
 }
 
-pub(crate) fn check_row(rt: &HostRuntime, row: &Row) -> Result<(), Fail> {
-    let found = on_both(load(rt, row.sheet)?, load(rt, row.sheet)?)?;
+pub(crate) fn check_row(rt: &(impl Abort + AllocGlobal), row: &Row) -> Result<(), Fail> {
+    let found = on_both(rt, load(rt, row.sheet)?, load(rt, row.sheet)?)?;
     let figures = Figures {
         steps: row.steps,
         total: row.total,
@@ -53,9 +55,9 @@ pub(crate) fn check_row(rt: &HostRuntime, row: &Row) -> Result<(), Fail> {
         plan: answer(row.plan.answer),
         strong: answer(row.strong.answer),
     };
-    assert_eq!(found.figures, figures);
-    check_written(&found.plan.nodes, row.plan.nodes)?;
-    check_written(&found.plan.edges, row.plan.edges)?;
-    check_written(&found.strong.nodes, row.strong.nodes)?;
-    check_written(&found.strong.edges, row.strong.edges)
+    assert_eq!(rt; found.figures, figures);
+    check_written(rt, &found.plan.nodes, row.plan.nodes)?;
+    check_written(rt, &found.plan.edges, row.plan.edges)?;
+    check_written(rt, &found.strong.nodes, row.strong.nodes)?;
+    check_written(rt, &found.strong.edges, row.strong.edges)
 }

@@ -75,6 +75,7 @@ pub(crate) fn check_ended<Q: EventQueue>(
 
 // The clusters from number 0 on, and no more than these.
 pub(crate) fn check_clusters<Q: EventQueue>(
+    rt: &impl Abort,
     growth: &Growth<Q>,
     clusters: &[(Option<(usize, usize)>, Phase, u64)],
 ) -> Result<(), Fail>
@@ -83,9 +84,9 @@ pub(crate) fn check_clusters<Q: EventQueue>(
     for c in 0..clusters.len() {
         let (parts, phase, moat) = clusters[c];
         let standing = Standing { parts, phase, moat };
-        assert_eq!(growth.cluster(c), Ok(standing));
+        assert_eq!(rt; growth.cluster(c), Ok(standing));
     }
-    assert_eq!(
+    assert_eq!(rt;
         growth.cluster(clusters.len()),
         Err(Refusal::ClusterNotFormed)
     );
@@ -93,14 +94,18 @@ pub(crate) fn check_clusters<Q: EventQueue>(
 }
 
 // The chosen edges, by a mark for each edge.
-pub(crate) fn check_chosen<Q: EventQueue>(growth: &Growth<Q>, chosen: &[bool]) -> Result<(), Fail>
+pub(crate) fn check_chosen<Q: EventQueue>(
+    rt: &impl Abort,
+    growth: &Growth<Q>,
+    chosen: &[bool],
+) -> Result<(), Fail>
     requires { Sound Q.EventQueue.table growth.now }
 {
     for s in 0..chosen.len() {
-        assert_eq!(growth.is_chosen(s), chosen[s]);
+        assert_eq!(rt; growth.is_chosen(s), chosen[s]);
     }
-    assert_eq!(growth.is_chosen(chosen.len()), false);
-    assert_eq!(growth.is_chosen(1024), false);
-    assert_eq!(growth.is_chosen(usize::MAX), false);
+    assert_eq!(rt; growth.is_chosen(chosen.len()), false);
+    assert_eq!(rt; growth.is_chosen(1024), false);
+    assert_eq!(rt; growth.is_chosen(usize::MAX), false);
     Ok(())
 }

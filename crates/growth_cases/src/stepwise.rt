@@ -16,10 +16,10 @@ fn play_first<Q: EventQueue>(rt: &impl Abort, growth: &mut Growth<Q>) -> Result<
     requires { Sound Q.EventQueue.table growth.old }
     ensures { Sound Q.EventQueue.table growth.new }
 {
-    check_clusters(growth, &[(None, Active, 0); 5])?;
+    check_clusters(rt, growth, &[(None, Active, 0); 5])?;
     check_stages(rt, growth, &FIRST)?;
-    check_clusters(growth, &AFTER_FIRST)?;
-    check_chosen(growth, &[false, true, false, false])
+    check_clusters(rt, growth, &AFTER_FIRST)?;
+    check_chosen(rt, growth, &[false, true, false, false])
 }
 
 fn play_then<Q: EventQueue>(rt: &impl Abort, growth: &mut Growth<Q>) -> Result<(), Fail>
@@ -27,8 +27,8 @@ fn play_then<Q: EventQueue>(rt: &impl Abort, growth: &mut Growth<Q>) -> Result<(
 {
     check_stages(rt, growth, &THEN)?;
     check_ended(rt, growth, &THEN[2])?;
-    check_clusters(growth, &AT_END)?;
-    check_chosen(growth, &[true; 4])
+    check_clusters(rt, growth, &AT_END)?;
+    check_chosen(rt, growth, &[true; 4])
 }
 
 fn plays<Q: EventQueue + Drop>(rt: &impl Abort, network: Network, queue: Q) -> Result<(), Fail> {

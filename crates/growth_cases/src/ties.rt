@@ -7,6 +7,8 @@ use growth::{Growth, Phase};
 use network::Network;
 use pruning::Coverage::{Alone, Whole};
 use queue::{EventQueue, FlatQueue, HeapQueue};
+use std::alloc::AllocGlobal;
+use std::process::Abort;
 use std::test::*;
 
 // A network that comes out as its row says, with these clusters and these chosen edges.
@@ -17,18 +19,28 @@ struct Tie {
     chosen: &'static [bool],
 }
 
-fn plays<Q: EventQueue + Drop>(network: Network, queue: Q, tie: &Tie) -> Result<(), Fail> {
+fn plays<Q: EventQueue + Drop>(
+    rt: &impl Abort,
+    network: Network,
+    queue: Q,
+    tie: &Tie,
+) -> Result<(), Fail> {
     let mut growth = Growth::start(network, queue);
     growth.grow_to_end();
-    check_clusters(&growth, tie.clusters)?;
-    check_chosen(&growth, tie.chosen)
+    check_clusters(rt, &growth, tie.clusters)?;
+    check_chosen(rt, &growth, tie.chosen)
 }
 
-fn check_tie(rt: &HostRuntime, tie: &Tie) -> Result<(), Fail> {
+fn check_tie(rt: &(impl Abort + AllocGlobal), tie: &Tie) -> Result<(), Fail> {
     check_row(rt, &tie.row)?;
-    plays(load(rt, tie.row.sheet)?, FlatQueue::open(), tie)?;
+    plays(rt, load(rt, tie.row.sheet)?, FlatQueue::open(), tie)?;
     let mut keys = [BLANK; 1535];
-    plays(load(rt, tie.row.sheet)?, HeapQueue::open(&mut keys), tie)
+    plays(
+        rt,
+        load(rt, tie.row.sheet)?,
+        HeapQueue::open(&mut keys),
+        tie,
+    )
 }
 
 // The edges of a ring are all due at 4, and join it in the order of their numbers.

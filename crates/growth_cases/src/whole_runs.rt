@@ -60,7 +60,7 @@ fn runs_in_part<Q: EventQueue + Drop>(
     queue: Q,
 ) -> Result<(), Fail> {
     let mut growth = run(network, &entries(), queue, 3);
-    check_clusters(&growth, &AFTER_FIRST)?;
+    check_clusters(rt, &growth, &AFTER_FIRST)?;
     check_stages(rt, &mut growth, &THEN)?;
     check_ended(rt, &mut growth, &THEN[2])
 }
@@ -73,14 +73,14 @@ fn runs_empty<Q: EventQueue + Drop>(
 ) -> Result<(), Fail> {
     let growth = run(network, &[link(0, 1, 6, b"A1")], queue, 5);
     assert_eq!(rt; growth.steps(), 0);
-    check_clusters(&growth, &[])
+    check_clusters(rt, &growth, &[])
 }
 
 const OTHER: &[u8] = b"N\t3\nN\t4\nS\t0\t1\t1\tA\n";
 
 #[test]
 fn as_by_hand(rt: HostRuntime) -> Result<(), Fail> {
-    let by_hand = on_both(load(&rt, CHAIN)?, load(&rt, CHAIN)?)?;
+    let by_hand = on_both(&rt, load(&rt, CHAIN)?, load(&rt, CHAIN)?)?;
     runs_through(&rt, load(&rt, OTHER)?, FlatQueue::open(), &by_hand)?;
     let mut keys = [BLANK; 1535];
     runs_through(&rt, load(&rt, OTHER)?, HeapQueue::open(&mut keys), &by_hand)

@@ -1,4 +1,6 @@
 // A network as the route drawer enters it: nodes with prizes, edges with two ends, a cost and a code.
+#![tactic(auto)]
+
 mod code;
 mod codes;
 mod edge;

@@ -1,4 +1,6 @@
 // Reads a sheet on standard input and prints its network's edges in work-list order, or why it was refused.
+#![tactic(auto)]
+
 use network::Network;
 use sheet::SheetLoader;
 use std::io;

@@ -1,4 +1,6 @@
 // Pruning and strong pruning of a tree, and what a plan answers, over lists of marks. It wants no memory.
+#![tactic(auto)]
+
 mod answer;
 mod answers;
 mod branch;
@@ -9,6 +11,8 @@ mod pruned;
 mod reads;
 mod shape;
 mod strong;
+#[cfg(test)]
+mod tests;
 mod worths;
 mod writing;
 

@@ -1,4 +1,6 @@
 // The event queue: a table from event numbers to times that says which event comes first.
+#![tactic(auto)]
+
 ghost use Rattle.std.specs.Prelude.{◌≡◌, ℕ, List, length, Some, None, Option};
 ghost use Rattle.queue.specs.Tables.{no_entries, write_answer, with_entry, first_entry, WritesStand, FirstEntryStands};
 

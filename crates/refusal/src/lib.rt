@@ -1,4 +1,6 @@
 // Why a call says no: one enum for every call, with its number.
+#![tactic(auto)]
+
 ghost use Rattle.std.specs.Prelude.{◌≡◌, Some};
 ghost use Rattle.refusal.specs.Numbers.{refusal_number, refusal_line, refusal_text};
 

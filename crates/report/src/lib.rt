@@ -1,4 +1,6 @@
 // The final report of a network: growth to its end and both plans, as one value.
+#![tactic(auto)]
+
 mod ending;
 mod kept;
 

@@ -1,4 +1,6 @@
 // Reads a sheet on standard input, grows its network to the end, and prints both plans, or why it was refused.
+#![tactic(auto)]
+
 use network::Network;
 use queue::FlatQueue;
 use refusal::Refusal;

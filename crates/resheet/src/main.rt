@@ -1,4 +1,6 @@
 // Reads a sheet on standard input and prints it in the standard order: nodes first, then edges.
+#![tactic(auto)]
+
 use network::Network;
 use sheet::{SheetLoader, write_sheet};
 use std::io;

@@ -1,4 +1,6 @@
 // Sheets: a network as text, one record a line, read whole or not at all.
+#![tactic(auto)]
+
 mod field;
 mod loader;
 mod number;

@@ -1,4 +1,6 @@
 // The theory of growth: its definitions stand in specs/, and each function's contract is a law of them.
+#![tactic(auto)]
+
 ghost use Rattle.theory.specs.Laws.{LaminarHolds, NodesShared, EdgeLoadsHold, InnerMoatsHold, AcceptedExactlyHolds, EndsInTimeHolds, SlackIsEven, NumbersStaySmall, DueTimesKept, LowerBoundAny, LowerBoundHolds, PlanIsATree, PruningEnds, PlanWithinTwice, PlanAgainstEveryTree, GrownTreeHangs, StrongPlanIsATree, StrongPlanBest, LawsHold};
 ghost use Rattle.theory.specs.ByNumber.{StartByNumber, FormedByNumber, StepByNumber};
 ghost use Rattle.theory.specs.Instances.{LawsNotEmpty};

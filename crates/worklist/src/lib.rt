@@ -1,4 +1,6 @@
 // The work list: the marked edges of a network in the order of their codes.
+#![tactic(auto)]
+
 mod key;
 mod listing;
 

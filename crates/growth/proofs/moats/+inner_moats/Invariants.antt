@@ -1,4 +1,4 @@
 use Rattle.growth.proofs.moats.+inner_moats.Given as goal
 
-abbrev pub decreases-inner-moats : goal.decreases-inner-moats
-decreases-inner-moats l = l.c
+abbrev pub decreases-inner_moats : goal.decreases-inner_moats
+decreases-inner_moats l = l.c

@@ -11,4 +11,4 @@ loop-v-preserved c =
     let small = c.requires.small v in
     let most = cond_most (eqb (get_or of v 0) c.args.c) (2 * get_or ps v 0) in
     let inv = c.loop-v.invariant.1 in
-    (sum_more (λ v. cond (eqb (get_or of v 0) c.args.c) (2 * get_or ps v 0) 0) v c.loop-v.sum c.doubled-if-sum.result c.loop-v.invariant.0 c.doubled-if-sum.ensures, omega (arith, c.doubled-if-sum.ensures))
+    (sum_more (λ v. cond (eqb (get_or of v 0) c.args.c) (2 * get_or ps v 0) 0) v c.loop-v.sum c.doubled_if-sum.result c.loop-v.invariant.0 c.doubled_if-sum.ensures, omega (arith, c.doubled_if-sum.ensures))

@@ -3,8 +3,8 @@ use Rattle.network.specs.Networks.{net_of}
 use Rattle.pruning.proofs.Links.{edges_counted}
 use Rattle.growth.proofs.refresh.refresh_edges.Goals as goal
 
-pub refresh-edge-requires : goal.refresh-edge-requires
-refresh-edge-requires g c =
+pub refresh_edge-requires : goal.refresh_edge-requires
+refresh_edge-requires g c =
     let count = edges_counted (net_of c.args.network.now) c.edges-count.result.now c.edges-count.ensures in
     record { shown = c.requires; known = omega arith }
 

@@ -10,10 +10,10 @@ returns g c =
     let net = net_of c.args.network.now in
     let k = c.args.tables.now.steps in
     let t = g.Q.EventQueue.table c.args.queue.now in
-    let u = g.Q.EventQueue.table c.write-entry.new.queue in
+    let u = g.Q.EventQueue.table c.write_entry.new.queue in
     let all = table_length net (grow net k).time (grow net k).slots in
     record {
-      caught = caught_up (dues_after net k) t u c.args.number c.due.result c.write-entry.ensures.sized all c.write-entry.ensures.after c.due.ensures;
-      sized = long_after (dues_after net k) t u c.args.number c.due.result c.write-entry.ensures.sized all c.write-entry.ensures.after c.due.ensures;
-      here = right_here (dues_after net k) t u c.args.number c.due.result c.write-entry.ensures.sized all c.write-entry.ensures.after c.due.ensures;
+      caught = caught_up (dues_after net k) t u c.args.number c.due.result c.write_entry.ensures.sized all c.write_entry.ensures.after c.due.ensures;
+      sized = long_after (dues_after net k) t u c.args.number c.due.result c.write_entry.ensures.sized all c.write_entry.ensures.after c.due.ensures;
+      here = right_here (dues_after net k) t u c.args.number c.due.result c.write_entry.ensures.sized all c.write_entry.ensures.after c.due.ensures;
     }

@@ -10,7 +10,7 @@ returns g c =
     let first = c.start-growth.ensures in
     let all : steps_of c.start-growth.result + c.args.steps ≡ c.args.steps = omega (arith, first.steps) in
     record {
-      network = h.network ∙ first.network ∙ c.entered-anew.ensures;
+      network = h.network ∙ first.network ∙ c.entered_anew.ensures;
       state = h.state ∙ λ i. grow (sym h.network i) (all i);
       sound = h.sound;
       laws = laws_hold (network_of c.grow.new.self) h.sound.entered c.args.steps;

@@ -4,12 +4,12 @@ use Rattle.std.proofs.lemmas.Bool.Decides.{nat_tests}
 use Rattle.network.specs.Codes.{all, is_code_byte}
 use Rattle.network.proofs.codes.is_code.Goals as goal
 
-pub returns-then-not-is-code-byte : goal.returns-then-not-is-code-byte
-returns-then-not-is-code-byte c =
+pub returns-then-not-is_code_byte : goal.returns-then-not-is_code_byte
+returns-then-not-is_code_byte c =
     let s = c.args.text.now in
     let i = c.loop-b.b-index in
     let e : all is_code_byte s ≡ (is_code_byte (get_or s i 0) && all is_code_byte (drop (i + 1) s)) = c.loop-b.invariant ∙ at_drop_more (all is_code_byte) s i 0 (omega arith) in
-    let f = c.if-not-is-code-byte.ensures in
+    let f = c.if-not-is_code_byte.ensures in
     grind (arith, nat_tests)
 
 pub loop-b-preserved : goal.loop-b-preserved
@@ -17,7 +17,7 @@ loop-b-preserved c =
     let s = c.args.text.now in
     let i = c.loop-b.b-index in
     let e : all is_code_byte s ≡ (is_code_byte (get_or s i 0) && all is_code_byte (drop (i + 1) s)) = c.loop-b.invariant ∙ at_drop_more (all is_code_byte) s i 0 (omega arith) in
-    let f = c.if-not-is-code-byte.ensures in
+    let f = c.if-not-is_code_byte.ensures in
     grind (arith, nat_tests)
 
 pub returns : goal.returns

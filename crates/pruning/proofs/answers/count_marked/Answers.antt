@@ -11,7 +11,7 @@ pub loop-v-preserved : goal.loop-v-preserved
 loop-v-preserved c =
     let v = c.loop-v.v in
     let ms = c.args.marks.now in
-    let x = byte_one c.is-marked.result in
-    let most = one_most c.is-marked.result in
+    let x = byte_one c.is_marked.result in
+    let most = one_most c.is_marked.result in
     let inv = c.loop-v.invariant.1 in
-    (sum_more (λ v. one (marked ms v)) v c.loop-v.sum (bool_byte c.is-marked.result) c.loop-v.invariant.0 (x ∙ ap one c.is-marked.ensures), omega arith)
+    (sum_more (λ v. one (marked ms v)) v c.loop-v.sum (bool_byte c.is_marked.result) c.loop-v.invariant.0 (x ∙ ap one c.is_marked.ensures), omega arith)

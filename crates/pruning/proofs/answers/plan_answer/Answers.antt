@@ -6,6 +6,6 @@ use Rattle.pruning.proofs.answers.plan_answer.Goals as goal
 
 pub returns : goal.returns
 returns c =
-    let left = c.count-marked-nodes-left.ensures ∙ ap (λ n. sum_to n (λ v. one (marked c.args.nodes.now v))) c.node_count.ensures in
-    let told = c.status.ensures ∙ λ k. status_of (coverage (c.total-lost-lost.ensures k) (left k)) in
-    λ k. record { status = told k; cost = c.total-cost-cost.ensures k; lost = c.total-lost-lost.ensures k }
+    let left = c.count_marked-nodes_left.ensures ∙ ap (λ n. sum_to n (λ v. one (marked c.args.nodes.now v))) c.node_count.ensures in
+    let told = c.status.ensures ∙ λ k. status_of (coverage (c.total_lost-lost.ensures k) (left k)) in
+    λ k. record { status = told k; cost = c.total_cost-cost.ensures k; lost = c.total_lost-lost.ensures k }

@@ -6,8 +6,8 @@ use Rattle.theory.proofs.Valid.{fine}
 use Rattle.pruning.proofs.Totals.{sum_more, either_most}
 use Rattle.pruning.proofs.answers.total_cost.Goals as goal
 
-pub overflow-add-sum : goal.overflow-add-sum
-overflow-add-sum c =
+pub overflow_add-sum : goal.overflow_add-sum
+overflow_add-sum c =
     let net = net_of c.args.network.now in
     let i = c.loop-s.s in
     let f = fine net c.args.network.now.valid in
@@ -23,4 +23,4 @@ loop-s-preserved c =
     let f = fine net c.args.network.now.valid in
     let most = either_most (marked c.args.edges.now i) (cost net i) 0 1000000000 (f.costs i) (omega arith) in
     let inv = c.loop-s.invariant.1 in
-    (sum_more (λ s. cond (marked c.args.edges.now s) (cost net s) 0) i c.loop-s.sum c.cost-if-sum.result c.loop-s.invariant.0 c.cost-if-sum.ensures, omega arith)
+    (sum_more (λ s. cond (marked c.args.edges.now s) (cost net s) 0) i c.loop-s.sum c.cost_if-sum.result c.loop-s.invariant.0 c.cost_if-sum.ensures, omega arith)

@@ -17,8 +17,8 @@ loop-i-init c =
       ap (λ x. marked (set (replicate 256 0) root x)) (byte_one (eqb root c.args.best)) ∙ keep_starts net (by_node c.args.table.now) root c.args.best c.requires.root,
     )
 
-pub is-kept-stays-requires : goal.is-kept-stays-requires
-is-kept-stays-requires c =
+pub is_kept-stays-requires : goal.is_kept-stays-requires
+is_kept-stays-requires c =
     let net = net_of c.args.network.now in
     let f = fine net c.args.network.now.valid in
     let in' = inside_at net f c.requires.rooted.0 c.args.count c.args.branches.now c.requires.rooted.1 c.loop-i.i c.loop-i-test.true in
@@ -47,8 +47,8 @@ loop-i-preserved c =
     let few = f.few_nodes in
     let long = c.loop-i.invariant.0 in (
       length-set above b.child _ ∙ long,
-      ap (λ x. marked (set above b.child x)) (byte_one c.is-kept-stays.result)
-          ∙ keep_more net W c.args.root c.args.best above b (newest i bs) c.is-kept-stays.result (omega arith) c.loop-i.invariant.1 c.is-kept-stays.ensures
+      ap (λ x. marked (set above b.child x)) (byte_one c.is_kept-stays.result)
+          ∙ keep_more net W c.args.root c.args.best above b (newest i bs) c.is_kept-stays.result (omega arith) c.loop-i.invariant.1 c.is_kept-stays.ensures
           ∙ ap (λ k. kept net W c.args.root c.args.best (newest k bs)) (sym (add-one i)),
     )
 

@@ -25,11 +25,11 @@ loop-left-preserved c =
     let shapes = c.args.shapes.now in
     let d = c.loop-left.left - 1 in
     let inv = c.loop-left.invariant in
-    let nodes-kept = c.open-up.auto.nodes in
-    let inside-kept = c.open-up.auto.inside in
+    let nodes-kept = c.open_up.auto.nodes in
+    let inside-kept = c.open_up.auto.inside in
     let next : suc d ≡ c.loop-left.left = omega arith in (
       omega arith,
       omega arith,
       omega arith,
-      λ v l. c.open-up.ensures v (omega arith) ∙ ap (λ k. marked c.loop-left.nodes v || held_below shapes k (marked c.loop-left.inside) v) next ∙ inv.3 v l,
+      λ v l. c.open_up.ensures v (omega arith) ∙ ap (λ k. marked c.loop-left.nodes v || held_below shapes k (marked c.loop-left.inside) v) next ∙ inv.3 v l,
     )

@@ -13,13 +13,13 @@ pub returns : goal.returns
 returns c =
     let net = net_of c.args.network.now in
     let E = marked c.args.chosen.now in
-    let K = marked c.pruned-nodes-nodes.result in
-    let N = marked c.args.tree-nodes.now in
+    let K = marked c.pruned_nodes-nodes.result in
+    let N = marked c.args.tree_nodes.now in
     let M = pruned_in net (heeded c.args.shapes.now) N E in
-    let same : (v : ℕ) → v < node_count net → K v ≡ M v = (λ v l. c.pruned-nodes-nodes.ensures.value v l ∙ ap (λ s. pruned_in net s N E v) c.first-shapes.ensures.value) in
+    let same : (v : ℕ) → v < node_count net → K v ≡ M v = (λ v l. c.pruned_nodes-nodes.ensures.value v l ∙ ap (λ s. pruned_in net s N E v) c.first_shapes.ensures.value) in
     let plan = plan_same net K M (edges_among net E K) (edges_among net E M) same (among_same net (fine net c.args.network.now.valid) E K M same) in
     record {
-      answer = c.write-plan.ensures.answer ∙ ap answer_of plan;
-      nodes = c.write-plan.ensures.nodes ∙ ap (λ p. p.node_marks ++ drop (node_count net) c.args.nodes-out.now) plan;
-      edges = c.write-plan.ensures.edges ∙ ap (λ p. p.edge_marks ++ drop (edge_count net) c.args.edges-out.now) plan;
+      answer = c.write_plan.ensures.answer ∙ ap answer_of plan;
+      nodes = c.write_plan.ensures.nodes ∙ ap (λ p. p.node_marks ++ drop (node_count net) c.args.nodes_out.now) plan;
+      edges = c.write_plan.ensures.edges ∙ ap (λ p. p.edge_marks ++ drop (edge_count net) c.args.edges_out.now) plan;
     }

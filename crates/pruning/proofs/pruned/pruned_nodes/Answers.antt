@@ -17,17 +17,17 @@ loop-turns-init c =
     let f = fine net c.args.network.now.valid in
     let shapes = c.args.shapes.now in
     let E = marked c.args.chosen.now in
-    let N = marked c.args.tree-nodes.now in
-    let M = marked c.write-nodes.new.out in
-    let n = c.node-count-n.ensures in
+    let N = marked c.args.tree_nodes.now in
+    let M = marked c.write_nodes.new.out in
+    let n = c.node_count-n.ensures in
     let long = length-replicate {A = ℕ} 256 0 in (
-      omega (arith, c.write-nodes.auto.out),
+      omega (arith, c.write_nodes.auto.out),
       λ v l. ap (λ k. prune_in k net shapes E M v) n
-          ∙ prune_same net f shapes E (node_count net) M N (λ u b. ap (λ o. marked o u) c.write-nodes.ensures ∙ marked_front c.node-count-n.result N (drop c.node-count-n.result (replicate 256 0)) u (omega arith)) v l,
+          ∙ prune_same net f shapes E (node_count net) M N (λ u b. ap (λ o. marked o u) c.write_nodes.ensures ∙ marked_front c.node_count-n.result N (drop c.node_count-n.result (replicate 256 0)) u (omega arith)) v l,
     )
 
-pub returns-in-default : goal.returns-in-default
-returns-in-default c =
+pub returns-in_default : goal.returns-in_default
+returns-in_default c =
     let net = net_of c.args.network.now in
     let shapes = c.args.shapes.now in
     let E = marked c.args.chosen.now in
@@ -36,11 +36,11 @@ returns-in-default c =
     let turns : c.loop-turns.turns ≡ suc k = omega arith in
     record {
       long = c.loop-turns.invariant.0;
-      value = λ v l. sym (ap (λ P. P v) (turn_done net shapes E k M (sym c.in-default.ensures))) ∙ ap (λ j. prune_in j net shapes E M v) (sym turns) ∙ c.loop-turns.invariant.1 v l;
+      value = λ v l. sym (ap (λ P. P v) (turn_done net shapes E k M (sym c.in_default.ensures))) ∙ ap (λ j. prune_in j net shapes E M v) (sym turns) ∙ c.loop-turns.invariant.1 v l;
     }
 
-pub members-of-members-requires : goal.members-of-members-requires
-members-of-members-requires c =
+pub members_of-members-requires : goal.members_of-members-requires
+members_of-members-requires c =
     let net = net_of c.args.network.now in
     let shapes = c.args.shapes.now in
     record {
@@ -53,15 +53,15 @@ loop-turns-preserved c =
     let net = net_of c.args.network.now in
     let f = fine net c.args.network.now.valid in
     let few = f.few_nodes in
-    let n = c.node-count-n.ensures in
+    let n = c.node_count-n.ensures in
     let shapes = c.args.shapes.now in
     let E = marked c.args.chosen.now in
     let M = marked c.loop-turns.nodes in
     let L = member shapes c.in-Some.c in
     let k = c.loop-turns.turns - 1 in
     let turns : c.loop-turns.turns ≡ suc k = omega arith in (
-      c.take-away-nodes.ensures.long,
-      λ v l. prune_same net f shapes E k (marked c.take-away-nodes.result) (except M L) (λ u b. c.take-away-nodes.ensures.value u (omega arith) ∙ ap (λ x. M u && not x) (c.members-of-members.ensures.value u (omega arith))) v l
+      c.take_away-nodes.ensures.long,
+      λ v l. prune_same net f shapes E k (marked c.take_away-nodes.result) (except M L) (λ u b. c.take_away-nodes.ensures.value u (omega arith) ∙ ap (λ x. M u && not x) (c.members_of-members.ensures.value u (omega arith))) v l
           ∙ sym (ap (λ P. P v) (turn_next net shapes E k M c.in-Some.c (sym c.in-Some.ensures)))
           ∙ ap (λ j. prune_in j net shapes E M v) (sym turns)
           ∙ c.loop-turns.invariant.1 v l,

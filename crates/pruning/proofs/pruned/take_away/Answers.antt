@@ -10,7 +10,7 @@ use Rattle.pruning.proofs.pruned.take_away.Goals as goal
 
 pub loop-v-preserved : goal.loop-v-preserved
 loop-v-preserved c =
-    ap (set c.loop-v.rest c.loop-v.v) (byte_one c.is-left.result ∙ ap one c.is-left.ensures)
+    ap (set c.loop-v.rest c.loop-v.v) (byte_one c.is_left.result ∙ ap one c.is_left.ensures)
     ∙ marks_more (except (marked c.args.nodes.now) (marked c.args.members.now)) c.loop-v.v (replicate 256 0) c.loop-v.rest (let n = length-replicate {A = ℕ} 256 0 in omega arith) c.loop-v.invariant
 
 pub returns : goal.returns

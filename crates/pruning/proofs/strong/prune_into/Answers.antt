@@ -9,9 +9,9 @@ use Rattle.pruning.proofs.strong.prune_into.Goals as goal
 pub returns : goal.returns
 returns c =
     let net = net_of c.args.network.now in
-    let plan = ap (plan_among net (marked c.args.tree-edges.now)) c.strong-nodes-nodes.ensures.value in
+    let plan = ap (plan_among net (marked c.args.tree_edges.now)) c.strong_nodes-nodes.ensures.value in
     record {
-      answer = c.write-plan.ensures.answer ∙ ap answer_of plan;
-      nodes = c.write-plan.ensures.nodes ∙ ap (λ p. p.node_marks ++ drop (node_count net) c.args.nodes-out.now) plan;
-      edges = c.write-plan.ensures.edges ∙ ap (λ p. p.edge_marks ++ drop (edge_count net) c.args.edges-out.now) plan;
+      answer = c.write_plan.ensures.answer ∙ ap answer_of plan;
+      nodes = c.write_plan.ensures.nodes ∙ ap (λ p. p.node_marks ++ drop (node_count net) c.args.nodes_out.now) plan;
+      edges = c.write_plan.ensures.edges ∙ ap (λ p. p.edge_marks ++ drop (edge_count net) c.args.edges_out.now) plan;
     }

@@ -14,7 +14,7 @@ pub loop-left-init : goal.loop-left-init
 loop-left-init c =
     let net = net_of c.args.network.now in
     let rooted = c.requires.rooted in
-    (omega arith, lifting_starts net (fine net c.args.network.now.valid) c.args.count c.args.branches.now rooted.0 rooted.1 c.requires.few _ c.prizes-by-node-table.ensures.long c.prizes-by-node-table.ensures.value)
+    (omega arith, lifting_starts net (fine net c.args.network.now.valid) c.args.count c.args.branches.now rooted.0 rooted.1 c.requires.few _ c.prizes_by_node-table.ensures.long c.prizes_by_node-table.ensures.value)
 
 -- at least one branch is left
 abbrev last : (bs : List Branch) (left : ℕ) → theory.Branch

@@ -11,7 +11,7 @@ returns c =
     let ps = c.prizes-prizes.result.now in
     let few = (fine net c.args.network.now.valid).few_nodes in
     let count = ap length c.prizes-prizes.ensures in
-    let wrote = c.copy-from-slice.ensures.after in
+    let wrote = c.copy_from_slice.ensures.after in
     record {
       long = ap (λ w. length (w ++ drop (length ps - 0) (replicate {A = ℕ} 256 0))) wrote ∙ prizes_long ps (omega arith);
       value = ap (λ w. by_node (w ++ drop (length ps - 0) (replicate {A = ℕ} 256 0))) wrote ∙ prizes_by_node ps ∙ ap by_node c.prizes-prizes.ensures;

@@ -13,14 +13,14 @@ returns c =
     let E = marked c.args.edges.now in
     let K = marked c.args.nodes.now in
     let n = c.node_count.ensures in
-    let nodes : c.write-nodes.new.out ≡ marks (node_count net) K ++ drop (node_count net) c.args.nodes-out.now =
-    c.write-nodes.ensures ∙ ap (λ m. marks m K ++ drop m c.args.nodes-out.now) n in
-    let edges = c.write-edges.ensures in
+    let nodes : c.write_nodes.new.out ≡ marks (node_count net) K ++ drop (node_count net) c.args.nodes_out.now =
+    c.write_nodes.ensures ∙ ap (λ m. marks m K ++ drop m c.args.nodes_out.now) n in
+    let edges = c.write_edges.ensures in
     record {
       answer = c.plan_answer.ensures
-          ∙ ap answer_of (plan_same net (marked c.write-nodes.new.out) K (marked c.write-edges.new.out) (edges_among net E K)
-          (λ v l. ap (λ o. marked o v) nodes ∙ marked_front (node_count net) K (drop (node_count net) c.args.nodes-out.now) v l)
-          (λ s l. ap (λ o. marked o s) edges ∙ marked_front (edge_count net) (edges_among net E K) (drop (edge_count net) c.args.edges-out.now) s l));
+          ∙ ap answer_of (plan_same net (marked c.write_nodes.new.out) K (marked c.write_edges.new.out) (edges_among net E K)
+          (λ v l. ap (λ o. marked o v) nodes ∙ marked_front (node_count net) K (drop (node_count net) c.args.nodes_out.now) v l)
+          (λ s l. ap (λ o. marked o s) edges ∙ marked_front (edge_count net) (edges_among net E K) (drop (edge_count net) c.args.edges_out.now) s l));
       nodes = nodes;
       edges = edges;
     }

@@ -17,18 +17,18 @@ loop-i-preserved g c =
     let n = length c.args.out.now in
     let t = g.Q.EventQueue.table l.queue in
     let u = g.Q.EventQueue.table c.args.queue.now in
-    let after = g.Q.EventQueue.table c.take-first.new.queue in
+    let after = g.Q.EventQueue.table c.take_first.new.queue in
     let told = c.in-Some.ensures in
     drains.drained_more n l.i u t c.args.out.now l.out l.invariant (omega arith) (omega arith) c.in-Some.entry told.answer after told.after
 
-pub returns-in-default : goal.returns-in-default
-returns-in-default g c =
+pub returns-in_default : goal.returns-in_default
+returns-in_default g c =
     let l = c.loop-i in
     let n = length c.args.out.now in
     let t = g.Q.EventQueue.table l.queue in
     let u = g.Q.EventQueue.table c.args.queue.now in
-    let after = g.Q.EventQueue.table c.take-first.new.queue in
-    let told = c.in-default.ensures in
+    let after = g.Q.EventQueue.table c.take_first.new.queue in
+    let told = c.in_default.ensures in
     let e = drains.ended_empty n l.i u t c.args.out.now l.out l.invariant (omega arith) told.answer after told.after in
     record { answer = e.0; after = e.1; written = e.2 }
 

@@ -12,11 +12,11 @@ use Rattle.report.proofs.ending.final_report.Goals as goal
 
 pub returns : goal.returns
 returns g c =
-    let h = c.grow-to-end.ensures in
-    let s = c.grow-to-end.new.self in
+    let h = c.grow_to_end.ensures in
+    let s = c.grow_to_end.new.self in
     let net = network_of c.args.growth.now in
-    let a = found (eqb (node_count (network_of s)) 0) c.in-ok-plan.plan (kept_of (network_of s) (plan (network_of s) (state_of s))) c.in-ok-plan.ensures in
-    let b = found (eqb (node_count (network_of s)) 0) c.in-ok-strong.strong (kept_of (network_of s) (strong_plan (network_of s) (state_of s))) c.in-ok-strong.ensures in
+    let a = found (eqb (node_count (network_of s)) 0) c.in_ok-plan.plan (kept_of (network_of s) (plan (network_of s) (state_of s))) c.in_ok-plan.ensures in
+    let b = found (eqb (node_count (network_of s)) 0) c.in_ok-strong.strong (kept_of (network_of s) (strong_plan (network_of s) (state_of s))) c.in_ok-strong.ensures in
     let some : eqb (node_count net) 0 ≡ false = ap (λ n. eqb (node_count n) 0) (sym h.network) ∙ a.0 in
     record {
       answer = (λ i. Ok (record {

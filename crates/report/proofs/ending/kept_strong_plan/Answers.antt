@@ -11,5 +11,5 @@ returns g c =
     let net = network_of s in
     let st = state_of s in
     c.with_marks.ensures
-    ∙ (λ i. with_marks (c.strong-prune-answer.ensures.answer i) (c.strong-prune-answer.ensures.nodes i) (c.strong-prune-answer.ensures.edges i))
+    ∙ (λ i. with_marks (c.strong_prune-answer.ensures.answer i) (c.strong_prune-answer.ensures.nodes i) (c.strong_prune-answer.ensures.edges i))
     ∙ kept_found net c.requires.sound.entered st c.requires.over (strong_plan net st)

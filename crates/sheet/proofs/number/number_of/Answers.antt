@@ -14,8 +14,8 @@ returns-then-b-lt48 c =
     let e = not_digits s i (omega arith) other in
     grind (arith, nat_tests)
 
-pub overflow-mul-value : goal.overflow-mul-value
-overflow-mul-value c =
+pub overflow_mul-value : goal.overflow_mul-value
+overflow_mul-value c =
     let s = c.args.bytes.now in
     let i = c.loop-b.b-index in
     let inv = c.loop-b.invariant in
@@ -23,8 +23,8 @@ overflow-mul-value c =
     let small = value_small (take i s) inv.0 (omega arith) in
     omega arith
 
-pub overflow-add-value : goal.overflow-add-value
-overflow-add-value c =
+pub overflow_add-value : goal.overflow_add-value
+overflow_add-value c =
     let s = c.args.bytes.now in
     let i = c.loop-b.b-index in
     let inv = c.loop-b.invariant in

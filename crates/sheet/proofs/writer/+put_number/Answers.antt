@@ -10,8 +10,8 @@ returns-then-n-lt10 t c =
     let e = length_digit c.args.n c.if-n-lt10.true in
     record { end = omega arith; after = laid_one c.args.out.now c.args.place c.args.n (omega arith) c.if-n-lt10.true }
 
-pub put-number-end-requires : goal.put-number-end-requires
-put-number-end-requires t c =
+pub put_number-end-requires : goal.put_number-end-requires
+put_number-end-requires t c =
     let small : c.args.n < 2 ^ 64 = omega arith in
     let e = length_step c.args.n c.if-n-lt10.false small in
     (omega arith, omega arith)
@@ -22,8 +22,8 @@ bounds-out-end t c =
     let e = length_step c.args.n c.if-n-lt10.false small in
     omega arith
 
-pub overflow-add-result-2 : goal.overflow-add-result-2
-overflow-add-result-2 t c =
+pub overflow_add-result-2 : goal.overflow_add-result-2
+overflow_add-result-2 t c =
     let small : c.args.n < 2 ^ 64 = omega arith in
     let e = length_step c.args.n c.if-n-lt10.false small in
     omega arith
@@ -32,5 +32,5 @@ pub returns : goal.returns
 returns t c =
     let small : c.args.n < 2 ^ 64 = omega arith in
     let e = length_step c.args.n c.if-n-lt10.false small in
-    let told = c.put-number-end.ensures in
-    record { end = omega arith; after = laid_more c.args.out.now c.put-number-end.new.out c.args.place c.args.n c.put-number-end.result c.if-n-lt10.false small told.end (omega arith) told.after }
+    let told = c.put_number-end.ensures in
+    record { end = omega arith; after = laid_more c.args.out.now c.put_number-end.new.out c.args.place c.args.n c.put_number-end.result c.if-n-lt10.false small told.end (omega arith) told.after }

@@ -10,5 +10,5 @@ returns c =
     let k : p + length bs - p ≡ length bs = omega arith in
     record {
       end = refl;
-      after = (λ i. take p xs ++ (c.copy-from-slice.ensures.after i ++ drop (k i) (drop p xs))) ∙ ap (λ r. take p xs ++ (bs ++ r)) (drop-drop (length bs) p xs);
+      after = (λ i. take p xs ++ (c.copy_from_slice.ensures.after i ++ drop (k i) (drop p xs))) ∙ ap (λ r. take p xs ++ (bs ++ r)) (drop-drop (length bs) p xs);
     }

@@ -4,12 +4,12 @@ use Rattle.theory.proofs.Laws.{laws_hold}
 use Rattle.growth.proofs.Calls.{idle_state, going, first_is, some_formed, next_state, next_shown, next_queue}
 use Rattle.growth.proofs.engine.Growth.advance.Goals as goal
 
-pub returns-in-default : goal.returns-in-default
-returns-in-default g c =
+pub returns-in_default : goal.returns-in_default
+returns-in_default g c =
     let s = c.args.self.now in
     record {
       network = refl;
-      state = idle_state g.Q.EventQueue.table s c.requires.sound (sym c.in-default.is ∙ c.requires.due);
+      state = idle_state g.Q.EventQueue.table s c.requires.sound (sym c.in_default.is ∙ c.requires.due);
       sound = c.requires.sound;
       laws = laws_hold (net_of s.network) c.requires.sound.entered s.tables.steps;
     }

@@ -13,8 +13,8 @@ loop-init g c =
     let none : s.tables.steps ≡ s.tables.steps + 0 = omega arith in
     (c.requires, refl, ap (grow (net_of s.network)) none)
 
-pub has-ended-requires : goal.has-ended-requires
-has-ended-requires g c = c.loop.invariant.0
+pub has_ended-requires : goal.has_ended-requires
+has_ended-requires g c = c.loop.invariant.0
 
 pub step-requires : goal.step-requires
 step-requires g c = c.loop.invariant.0
@@ -31,13 +31,13 @@ loop-preserved g c =
     let h = c.step.ensures in
     (h.sound, h.network ∙ c.loop.invariant.1, further (network_of s) (network_of c.loop.self) (steps_of s) c.loop.counter (state_of c.loop.self) (state_of c.step.new.self) c.loop.invariant.1 c.loop.invariant.2 h.state)
 
-pub returns-then-has-ended : goal.returns-then-has-ended
-returns-then-has-ended g c =
+pub returns-then-has_ended : goal.returns-then-has_ended
+returns-then-has_ended g c =
     let s = c.args.self.now in
     let net = network_of s in
     let l = c.loop.self in
     let left = c.loop-test.true in
-    let over : ended (grow net (steps_of s + c.loop.counter)) ≡ true = sym (ap ended c.loop.invariant.2) ∙ sym c.has-ended.ensures ∙ c.if-has-ended.true in
+    let over : ended (grow net (steps_of s + c.loop.counter)) ≡ true = sym (ap ended c.loop.invariant.2) ∙ sym c.has_ended.ensures ∙ c.if-has_ended.true in
     record {
       network = c.loop.invariant.1;
       state = c.loop.invariant.2 ∙ sym (still net (steps_of s + c.loop.counter) over (steps_of s + c.args.steps) (omega arith));

@@ -11,8 +11,8 @@ returns-in-Some g c =
     let s = c.args.self.now in
     let net = net_of s.network in
     let st = grow net s.tables.steps in
-    let nodes = c.args.nodes-out.now in
-    let edges = c.args.edges-out.now in
+    let nodes = c.args.nodes_out.now in
+    let edges = c.args.edges_out.now in
     let no = c.in-Some.ensures in
     record {
       answer = refused_answer net st (strong_plan net st) nodes edges c.in-Some.why no;
@@ -26,13 +26,13 @@ returns g c =
     let s = c.args.self.now in
     let net = net_of s.network in
     let st = grow net s.tables.steps in
-    let nodes = c.args.nodes-out.now in
-    let edges = c.args.edges-out.now in
-    let none = c.in-default.ensures in
-    let same = strong_plan_shown net c.requires.entered s.tables.steps s.tables c.requires.shown c.grown-nodes-nodes.result c.grown-edges-edges.result c.grown-nodes-nodes.ensures.value c.grown-edges-edges.ensures none in
+    let nodes = c.args.nodes_out.now in
+    let edges = c.args.edges_out.now in
+    let none = c.in_default.ensures in
+    let same = strong_plan_shown net c.requires.entered s.tables.steps s.tables c.requires.shown c.grown_nodes-nodes.result c.grown_edges-edges.result c.grown_nodes-nodes.ensures.value c.grown_edges-edges.ensures none in
     record {
-      answer = c.strong-prune-tree.ensures.answer ∙ planned_answer net st (strong_plan net st) _ same nodes edges none;
-      nodes = c.strong-prune-tree.ensures.nodes ∙ planned_nodes net st (strong_plan net st) _ same nodes edges none;
-      edges = c.strong-prune-tree.ensures.edges ∙ planned_edges net st (strong_plan net st) _ same nodes edges none;
+      answer = c.strong_prune_tree.ensures.answer ∙ planned_answer net st (strong_plan net st) _ same nodes edges none;
+      nodes = c.strong_prune_tree.ensures.nodes ∙ planned_nodes net st (strong_plan net st) _ same nodes edges none;
+      edges = c.strong_prune_tree.ensures.edges ∙ planned_edges net st (strong_plan net st) _ same nodes edges none;
       laws = laws_hold net c.requires.entered s.tables.steps;
     }

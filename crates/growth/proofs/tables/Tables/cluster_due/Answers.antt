@@ -12,7 +12,7 @@ use Rattle.growth.specs.declared.tables.Tables.{Tables}
 use Rattle.growth.proofs.Growing.{grows_shown}
 use Rattle.growth.proofs.Surpluses.{Running, prizes_of, idle_due, falls_shown, inner_fits, running}
 use Rattle.growth.proofs.tables.Tables.cluster_due.Goals as goal
-use Rattle.growth.proofs.tables.Tables.cluster_due.Goals.{After-inner-moats-moats}
+use Rattle.growth.proofs.tables.Tables.cluster_due.Goals.{After-inner_moats-moats}
 
 -- a cluster that grows, in the tables of a network
 grown : (n : Network) (t : Tables) (c : ℕ) → Shows (net_of n) t (grow (net_of n) t.steps) → grows_at t.family.clusters c ≡ true → Running (net_of n) t (grow (net_of n) t.steps) c
@@ -30,8 +30,8 @@ returns-then-not-grows c =
     let formed = formed_by_number net c.args.network.now.valid t.steps in
     sym (idle_due net st.time (get_or st.slots c.args.c inside) (sym (grows_shown net t st formed c.requires c.args.c) ∙ sym c.grows.ensures ∙ c.if-not-grows.true))
 
-pub doubled-prizes-prizes-requires : goal.doubled-prizes-prizes-requires
-doubled-prizes-prizes-requires c =
+pub doubled_prizes-prizes-requires : goal.doubled_prizes-prizes-requires
+doubled_prizes-prizes-requires c =
     let net = net_of c.args.network.now in
     let f = fine net c.args.network.now.valid in
     let few = f.few_nodes in
@@ -39,8 +39,8 @@ doubled-prizes-prizes-requires c =
     let whole = c.args.self.now.nodes.clusters_whole in
     record { few = omega arith; long = omega arith; small = λ v. let e = ap (λ ps. get_or ps v 0) c.prizes.ensures in omega (arith, f.prizes v) }
 
-pub inner-moats-moats-requires : goal.inner-moats-moats-requires
-inner-moats-moats-requires c =
+pub inner_moats-moats-requires : goal.inner_moats-moats-requires
+inner_moats-moats-requires c =
     let n = c.args.network.now in
     let net = net_of n in
     let t = c.args.self.now in
@@ -53,17 +53,17 @@ inner-moats-moats-requires c =
     record { there = omega arith; falls = falls_shown net t st formed c.requires; fits = inner_fits net t st formed c.requires small }
 
 -- what the two calls answer, in the network's words
-prizes_are : (c : After-inner-moats-moats) → c.doubled-prizes-prizes.result ≡ prizes_of (net_of c.args.network.now) c.args.self.now c.args.c
-prizes_are c = c.doubled-prizes-prizes.ensures ∙ ap (λ ps. prizes_in ps c.args.self.now.nodes.cluster_of c.args.c (length ps)) c.prizes.ensures
+prizes_are : (c : After-inner_moats-moats) → c.doubled_prizes-prizes.result ≡ prizes_of (net_of c.args.network.now) c.args.self.now c.args.c
+prizes_are c = c.doubled_prizes-prizes.ensures ∙ ap (λ ps. prizes_in ps c.args.self.now.nodes.cluster_of c.args.c (length ps)) c.prizes.ensures
 
-due : (c : After-inner-moats-moats) → Running (net_of c.args.network.now) c.args.self.now (grow (net_of c.args.network.now) c.args.self.now.steps) c.args.c
+due : (c : After-inner_moats-moats) → Running (net_of c.args.network.now) c.args.self.now (grow (net_of c.args.network.now) c.args.self.now.steps) c.args.c
 due c = grown c.args.network.now c.args.self.now c.args.c c.requires (sym c.grows.ensures ∙ c.if-not-grows.false)
 
-pub overflow-sub-result : goal.overflow-sub-result
-overflow-sub-result c = let d = (goal.at.overflow-sub-result c).After-inner-moats-moats in let p = prizes_are d in let m = c.inner-moats-moats.ensures in omega (arith, (due d).within)
+pub overflow_sub-result : goal.overflow_sub-result
+overflow_sub-result c = let d = (goal.at.overflow_sub-result c).After-inner_moats-moats in let p = prizes_are d in let m = c.inner_moats-moats.ensures in omega (arith, (due d).within)
 
-pub overflow-add-result : goal.overflow-add-result
-overflow-add-result c = let d = (goal.at.overflow-add-result c).After-inner-moats-moats in let p = prizes_are d in let m = c.inner-moats-moats.ensures in omega (arith, (due d).ranges)
+pub overflow_add-result : goal.overflow_add-result
+overflow_add-result c = let d = (goal.at.overflow_add-result c).After-inner_moats-moats in let p = prizes_are d in let m = c.inner_moats-moats.ensures in omega (arith, (due d).fits)
 
 pub returns : goal.returns
-returns c = let d = (goal.at.returns c).After-inner-moats-moats in (λ i. Some (c.args.self.now.time + (prizes_are d i - c.inner-moats-moats.ensures i))) ∙ sym (due d).due
+returns c = let d = (goal.at.returns c).After-inner_moats-moats in (λ i. Some (c.args.self.now.time + (prizes_are d i - c.inner_moats-moats.ensures i))) ∙ sym (due d).due

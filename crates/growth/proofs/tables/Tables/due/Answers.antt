@@ -23,8 +23,8 @@ returns-then-number-edges c =
     let beyond = c.if-number-edges.true in
     sym (none_beyond net (fine net n.valid) st.time st.slots c.args.number c.if-number-lt511.false (omega arith))
 
-pub edge-due-requires : goal.edge-due-requires
-edge-due-requires c =
+pub edge_due-requires : goal.edge_due-requires
+edge_due-requires c =
     let count = edges_counted (net_of c.args.network.now) c.edges.result.now c.edges.ensures in
     let l = c.if-number-edges.false in
     record { shown = c.requires; known = omega arith }

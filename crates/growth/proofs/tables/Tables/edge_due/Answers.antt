@@ -6,35 +6,35 @@ use Rattle.theory.proofs.Laws.{formed_by_number, numbers_stay_small}
 use Rattle.theory.proofs.Valid.{fine}
 use Rattle.growth.proofs.Slacks.{Between, depths_at, between}
 use Rattle.growth.proofs.tables.Tables.edge_due.Goals as goal
-use Rattle.growth.proofs.tables.Tables.edge_due.Goals.{After-edge-at-edge}
+use Rattle.growth.proofs.tables.Tables.edge_due.Goals.{After-edge_at-edge}
 
-read : (c : goal.After-edge-at-edge) →
-    Between (net_of c.args.network.now) c.args.self.now (grow (net_of c.args.network.now) c.args.self.now.steps) c.args.s c.edge-at-edge.result.first c.edge-at-edge.result.second c.edge-at-edge.result.cost
+read : (c : goal.After-edge_at-edge) →
+    Between (net_of c.args.network.now) c.args.self.now (grow (net_of c.args.network.now) c.args.self.now.steps) c.args.s c.edge_at-edge.result.first c.edge_at-edge.result.second c.edge_at-edge.result.cost
 read c =
     let net = net_of c.args.network.now in
     let t = c.args.self.now in
     let valid = c.args.network.now.valid in
-    between net t (grow net t.steps) (fine net valid) (formed_by_number net valid t.steps) (numbers_stay_small net valid t.steps) c.requires.shown c.args.s _ _ _ c.requires.known c.edge-at-edge.ensures.first c.edge-at-edge.ensures.second c.edge-at-edge.ensures.cost
+    between net t (grow net t.steps) (fine net valid) (formed_by_number net valid t.steps) (numbers_stay_small net valid t.steps) c.requires.shown c.args.s _ _ _ c.requires.known c.edge_at-edge.ensures.first c.edge_at-edge.ensures.second c.edge_at-edge.ensures.cost
 
 pub returns-then-first-second : goal.returns-then-first-second
-returns-then-first-second c = sym ((read (goal.at.returns-then-first-second c).After-edge-at-edge).one c.if-first-second.true)
+returns-then-first-second c = sym ((read (goal.at.returns-then-first-second c).After-edge_at-edge).one c.if-first-second.true)
 
-pub overflow-add-used : goal.overflow-add-used
-overflow-add-used c = let b = (read (goal.at.overflow-add-used c).After-edge-at-edge).fits in omega arith
+pub overflow_add-used : goal.overflow_add-used
+overflow_add-used c = let b = (read (goal.at.overflow_add-used c).After-edge_at-edge).fits in omega arith
 
-pub overflow-mul-edge : goal.overflow-mul-edge
-overflow-mul-edge c = let b = (read (goal.at.overflow-mul-edge c).After-edge-at-edge).fits in omega arith
+pub overflow_mul-edge : goal.overflow_mul-edge
+overflow_mul-edge c = let b = (read (goal.at.overflow_mul-edge c).After-edge_at-edge).fits in omega arith
 
-pub overflow-sub-edge : goal.overflow-sub-edge
-overflow-sub-edge c = (read (goal.at.overflow-sub-edge c).After-edge-at-edge).within c.if-first-second.false
+pub overflow_sub-edge : goal.overflow_sub-edge
+overflow_sub-edge c = (read (goal.at.overflow_sub-edge c).After-edge_at-edge).within c.if-first-second.false
 
-pub slack-due-requires : goal.slack-due-requires
-slack-due-requires c = let b = (read (goal.at.slack-due-requires c).After-edge-at-edge).fits in omega arith
+pub slack_due-requires : goal.slack_due-requires
+slack_due-requires c = let b = (read (goal.at.slack_due-requires c).After-edge_at-edge).fits in omega arith
 
 pub returns : goal.returns
 returns c =
     let t = c.args.self.now in
-    let e = c.edge-at-edge.result in
+    let e = c.edge_at-edge.result in
     c.slack_due.ensures
     ∙ (λ i. slack_due (c.grows.ensures i) (c.grows-2.ensures i) t.time (2 * e.cost - depths_at t e.first e.second))
-    ∙ (read (goal.at.returns c).After-edge-at-edge).due c.if-first-second.false
+    ∙ (read (goal.at.returns c).After-edge_at-edge).due c.if-first-second.false

@@ -11,8 +11,8 @@ use Rattle.pruning.proofs.Written.{marks_more}
 use Rattle.growth.proofs.TreeMarks.{front_long, front_marked, grown_edge_below, edge_grown}
 use Rattle.growth.proofs.tables.Tables.grown_edges.Goals as goal
 
-pub is-among-requires : goal.is-among-requires
-is-among-requires c =
+pub is_among-requires : goal.is_among-requires
+is_among-requires c =
     let count = edges_counted (net_of c.args.network.now) c.edges-count.result.now c.edges-count.ensures in
     let l = c.loop-s-test.true in
     record { known = omega arith; long = c.requires.long }
@@ -35,7 +35,7 @@ loop-s-preserved c =
     let few = (fine net n.valid).few_edges in
     let count = edges_counted net c.edges-count.result.now c.edges-count.ensures in
     let zeros = length-replicate {A = ℕ} 1024 0 in
-    ap (set c.loop-s.edges s) (byte_one c.is-among.result ∙ ap one (c.is-among.ensures ∙ edge_grown net n.valid t.steps t c.requires.shown (marked c.args.nodes.now) c.requires.grown s))
+    ap (set c.loop-s.edges s) (byte_one c.is_among.result ∙ ap one (c.is_among.ensures ∙ edge_grown net n.valid t.steps t c.requires.shown (marked c.args.nodes.now) c.requires.grown s))
     ∙ marks_more (grown_edge net (grow net t.steps).slots) s (replicate 1024 0) c.loop-s.edges (omega arith) c.loop-s.invariant
 
 pub returns : goal.returns

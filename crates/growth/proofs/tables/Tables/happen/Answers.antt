@@ -43,23 +43,23 @@ returns-then-number-lt511 c =
     (passes _ (node_count net) c.args.time t c.pass.new.self (ap length c.prizes.ensures) c.pass.ensures)
     c.if-number-lt511.true c.deactivate.ensures.clusters c.deactivate.ensures.formed refl refl refl refl refl
 
-pub edge-at-edge-requires : goal.edge-at-edge-requires
-edge-at-edge-requires c =
+pub edge_at-edge-requires : goal.edge_at-edge-requires
+edge_at-edge-requires c =
     let n = c.args.network.now in
     let st = grow (net_of n) c.args.self.now.steps in
     edge_known (net_of n) (fine (net_of n) n.valid) st.time st.slots c.args.time c.args.number c.requires.first c.if-number-lt511.false
 
-pub offset-bounds-self-edge : goal.offset-bounds-self-edge
-offset-bounds-self-edge c = omega (arith, c.edge-at-edge.ensures.within)
+pub offset_bounds-self-edge : goal.offset_bounds-self-edge
+offset_bounds-self-edge c = omega (arith, c.edge_at-edge.ensures.within)
 
 pub bounds-self-edge : goal.bounds-self-edge
-bounds-self-edge c = omega (arith, c.edge-at-edge.ensures.within)
+bounds-self-edge c = omega (arith, c.edge_at-edge.ensures.within)
 
-pub offset-bounds-self-edge-2 : goal.offset-bounds-self-edge-2
-offset-bounds-self-edge-2 c = omega (arith, c.edge-at-edge.ensures.within)
+pub offset_bounds-self-edge-2 : goal.offset_bounds-self-edge-2
+offset_bounds-self-edge-2 c = omega (arith, c.edge_at-edge.ensures.within)
 
 pub bounds-self-edge-2 : goal.bounds-self-edge-2
-bounds-self-edge-2 c = omega (arith, c.edge-at-edge.ensures.within)
+bounds-self-edge-2 c = omega (arith, c.edge_at-edge.ensures.within)
 
 -- a node's maximal cluster, as the table has it after time has passed
 after_passing : (n to : ℕ) (t m : Tables) → Passed n to t m → (v w d : ℕ) → v ≡ w → get_or t.nodes.cluster_of w 0 ≡ d → get_or m.nodes.cluster_of v 0 ≡ d
@@ -71,8 +71,8 @@ merge-new-requires c =
     let net = net_of n in
     let t = c.args.self.now in
     let high = c.if-number-lt511.false in
-    let a = after_passing _ c.args.time t c.pass.new.self c.pass.ensures c.edge-at-edge.result.first _ _ c.edge-at-edge.ensures.first (first_is net n.valid t.steps t c.requires.shown c.args.time c.args.number c.requires.going c.requires.first high) in
-    let b = after_passing _ c.args.time t c.pass.new.self c.pass.ensures c.edge-at-edge.result.second _ _ c.edge-at-edge.ensures.second (second_is net n.valid t.steps t c.requires.shown c.args.time c.args.number c.requires.going c.requires.first high) in
+    let a = after_passing _ c.args.time t c.pass.new.self c.pass.ensures c.edge_at-edge.result.first _ _ c.edge_at-edge.ensures.first (first_is net n.valid t.steps t c.requires.shown c.args.time c.args.number c.requires.going c.requires.first high) in
+    let b = after_passing _ c.args.time t c.pass.new.self c.pass.ensures c.edge_at-edge.result.second _ _ c.edge_at-edge.ensures.second (second_is net n.valid t.steps t c.requires.shown c.args.time c.args.number c.requires.going c.requires.first high) in
     let la = first_below net n.valid t.steps t c.requires.shown c.args.time c.args.number c.requires.going c.requires.first high in
     let lb = second_below net n.valid t.steps t c.requires.shown c.args.time c.args.number c.requires.going c.requires.first high in
     let free = room net n.valid t.steps t c.requires.shown c.args.time c.args.number c.requires.going c.requires.first high in
@@ -94,10 +94,10 @@ returns c =
     let t = c.args.self.now in
     let m = c.pass.new.self in
     let high = c.if-number-lt511.false in
-    let first = get_or m.nodes.cluster_of c.edge-at-edge.result.first 0 in
-    let second = get_or m.nodes.cluster_of c.edge-at-edge.result.second 0 in
-    let a = after_passing _ c.args.time t m c.pass.ensures c.edge-at-edge.result.first _ _ c.edge-at-edge.ensures.first (first_is net n.valid t.steps t c.requires.shown c.args.time c.args.number c.requires.going c.requires.first high) in
-    let b = after_passing _ c.args.time t m c.pass.ensures c.edge-at-edge.result.second _ _ c.edge-at-edge.ensures.second (second_is net n.valid t.steps t c.requires.shown c.args.time c.args.number c.requires.going c.requires.first high) in
+    let first = get_or m.nodes.cluster_of c.edge_at-edge.result.first 0 in
+    let second = get_or m.nodes.cluster_of c.edge_at-edge.result.second 0 in
+    let a = after_passing _ c.args.time t m c.pass.ensures c.edge_at-edge.result.first _ _ c.edge_at-edge.ensures.first (first_is net n.valid t.steps t c.requires.shown c.args.time c.args.number c.requires.going c.requires.first high) in
+    let b = after_passing _ c.args.time t m c.pass.ensures c.edge_at-edge.result.second _ _ c.edge_at-edge.ensures.second (second_is net n.valid t.steps t c.requires.shown c.args.time c.args.number c.requires.going c.requires.first high) in
     let count : m.family.formed ≡ length (grow net t.steps).slots = c.pass.ensures.formed ∙ c.requires.shown.count in
     shows_merged net n.valid t.steps c.args.time c.args.number c.requires.going c.requires.first t m _ c.requires.shown
     (passes _ (node_count net) c.args.time t m (ap length c.prizes.ensures) c.pass.ensures)

@@ -27,18 +27,18 @@ module _ (text wrote : List ℕ) (is : wrote ≡ text) (l : length text ≤ 8) w
   kept : take (length text) (wrote ++ drop (length text - 0) (zeros 8)) ≡ text
   kept = take_at wrote (drop (length text - 0) (zeros 8)) (length text) (ap length is) ∙ is
 
-pub invariant-of-result : goal.invariant-of-result
-invariant-of-result c =
+pub invariant_of-result : goal.invariant_of-result
+invariant_of-result c =
     let text = c.args.text.now in
-    let wrote = c.copy-from-slice.new.self in
-    let is = c.copy-from-slice.ensures.after in
-    let l = short text (sym c.if-not-is-code.ensures) in
-    (whole text wrote is l, (l, (padded text wrote is l, tt)))
+    let wrote = c.copy_from_slice.new.self in
+    let is = c.copy_from_slice.ensures.after in
+    let l = short text (sym c.if-not-is_code.ensures) in
+    record { whole = whole text wrote is l; within = l; padded = padded text wrote is l }
 
 pub returns : goal.returns
 returns c =
     let text = c.args.text.now in
-    let wrote = c.copy-from-slice.new.self in
-    let is = c.copy-from-slice.ensures.after in
-    let e = c.if-not-is-code.ensures in
+    let wrote = c.copy_from_slice.new.self in
+    let is = c.copy_from_slice.ensures.after in
+    let e = c.if-not-is_code.ensures in
     ap Some (kept text wrote is (short text (sym e))) ∙ ap (λ b. cond b (Some text) None) e

@@ -6,33 +6,37 @@ use Rattle.network.specs.Networks.{net_of}
 use Rattle.network.proofs.Entering.{edges_long, edge_fits, edge_keeps_valid, code_made, no_edge_refusal, edge_pushed}
 use Rattle.network.proofs.network.Network.add_edge.Goals as goal
 
-pub push-reserved-requires : goal.push-reserved-requires
-push-reserved-requires c =
+pub push_reserved-requires : goal.push_reserved-requires
+push_reserved-requires c =
     let was = c.args.self.now in
     let a = c.args in
     let new = link a.first a.second a.cost a.code.now in
-    let none = no_edge_refusal (net_of was) a.first a.second a.cost a.code.now (text_of c.in-Some-new.code) c.in-default.ensures c.in-Some-new.ensures in
+    let none = no_edge_refusal (net_of was) a.first a.second a.cost a.code.now (text_of c.in-Some-new.code) c.in_default.ensures c.in-Some-new.ensures in
     let n = edges_long was in
     let room = was.edges_room in
     omega (arith, (edge_fits (net_of was) new none).0)
 
-pub invariant-of-self : goal.invariant-of-self
-invariant-of-self c =
+pub invariant_of-self : goal.invariant_of-self
+invariant_of-self c =
     let was = c.args.self.now in
     let a = c.args in
     let new = link a.first a.second a.cost a.code.now in
-    let told = c.push-reserved.ensures in
-    let none = no_edge_refusal (net_of was) a.first a.second a.cost a.code.now (text_of c.in-Some-new.code) c.in-default.ensures c.in-Some-new.ensures in
+    let told = c.push_reserved.ensures in
+    let none = no_edge_refusal (net_of was) a.first a.second a.cost a.code.now (text_of c.in-Some-new.code) c.in_default.ensures c.in-Some-new.ensures in
     let same = (code_made a.code.now (text_of c.in-Some-new.code) c.in-Some-new.ensures).1 in
-    (ap valid (edge_pushed was _ _ a.code.now told.items same) ∙ edge_keeps_valid (net_of was) new was.valid none, (was.nodes_room, (omega arith, tt)))
+    record {
+      valid = ap valid (edge_pushed was _ _ a.code.now told.items same) ∙ edge_keeps_valid (net_of was) new was.valid none;
+      nodes_room = was.nodes_room;
+      edges_room = omega arith;
+    }
 
 pub returns : goal.returns
 returns c =
     let was = c.args.self.now in
     let a = c.args in
     let new = link a.first a.second a.cost a.code.now in
-    let told = c.push-reserved.ensures in
-    let none = no_edge_refusal (net_of was) a.first a.second a.cost a.code.now (text_of c.in-Some-new.code) c.in-default.ensures c.in-Some-new.ensures in
+    let told = c.push_reserved.ensures in
+    let none = no_edge_refusal (net_of was) a.first a.second a.cost a.code.now (text_of c.in-Some-new.code) c.in_default.ensures c.in-Some-new.ensures in
     let same = (code_made a.code.now (text_of c.in-Some-new.code) c.in-Some-new.ensures).1 in
     record {
       answer = ap Ok (c.len-number.ensures ∙ sym (edges_long was)) ∙ ap (λ r. answer_of r (length (net_of was).edges)) (sym none);

@@ -5,8 +5,12 @@ use Rattle.network.specs.Networks.{net_of}
 use Rattle.network.proofs.Entering.{node_keeps_valid}
 use Rattle.network.proofs.network.Network.add_node.Goals as goal
 
-pub invariant-of-self : goal.invariant-of-self
-invariant-of-self c =
+pub invariant_of-self : goal.invariant_of-self
+invariant_of-self c =
     let was = c.args.self.now in
-    let told = c.push-reserved.ensures in
-    (ap (λ ps. valid (net_from ps (vec_items was.edges))) told.items ∙ node_keeps_valid (net_of was) c.args.prize was.valid (sym c.in-default.ensures), (omega arith, (omega arith, tt)))
+    let told = c.push_reserved.ensures in
+    record {
+      valid = ap (λ ps. valid (net_from ps (vec_items was.edges))) told.items ∙ node_keeps_valid (net_of was) c.args.prize was.valid (sym c.in_default.ensures);
+      nodes_room = omega arith;
+      edges_room = omega arith;
+    }

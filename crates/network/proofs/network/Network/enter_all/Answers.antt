@@ -20,8 +20,8 @@ loop-i-preserved c =
     let told = c.enter.ensures in
     let counts : taken_count (map given (drop i es)) net ≡ cond (is_ok (enter_answer net new)) 1 0 + taken_count rest (entered_one net new) = at_drop_more (λ l. taken_count (map given l) net) es i (Node 0) c.loop-i-test.true in
     let leaves : entered (map given (drop i es)) net ≡ entered rest (entered_one net new) = at_drop_more (λ l. entered (map given l) net) es i (Node 0) c.loop-i-test.true in
-    let byte = as_number c.is-ok-is-taken.result in
-    let same = byte.0 ∙ ap (λ b. cond b 1 0) (c.is-ok-is-taken.ensures.value ∙ ap is_ok told.answer) in
+    let byte = as_number c.is_ok-is_taken.result in
+    let same = byte.0 ∙ ap (λ b. cond b 1 0) (c.is_ok-is_taken.ensures.value ∙ ap is_ok told.answer) in
     let after = ap (taken_count rest) told.after in
     let inv = c.loop-i.invariant in
     (omega arith, ap (entered rest) told.after ∙ sym leaves ∙ inv.1, omega arith)

@@ -4,9 +4,9 @@ use Rattle.std.proofs.lemmas.Result.{err_from_is_err_and}
 use Rattle.queue.proofs.Writes.{refused_stays}
 use Rattle.queue.proofs.flat.FlatQueueEventQueue.remove.Goals as goal
 
-pub returns-in-err-check-number : goal.returns-in-err-check-number
-returns-in-err-check-number c =
+pub returns-in_err-check_number : goal.returns-in_err-check_number
+returns-in_err-check_number c =
     let q = c.args.self.now in
-    let p = err_from_is_err_and c.from-residual.result c.from-residual.ensures.1 in
-    let told = c.in-err-check-number.ensures in
+    let p = err_from_is_err_and c.from_residual.result c.from_residual.ensures.1 in
+    let told = c.in_err-check_number.ensures in
     record { answer = p.1 ∙ ap Err p.2 ∙ told; after = refused_stays q.times c.args.number None _ q.full told; sized = q.full }

@@ -3,5 +3,5 @@ use Rattle.std.proofs.Common.{refl}
 use Rattle.queue.proofs.Keeps.{no_keys}
 use Rattle.queue.proofs.heaped.HeapQueue.open.Goals as goal
 
-pub invariant-of-result : goal.invariant-of-result
-invariant-of-result c = let told = c.open.ensures in (refl, (told.sound, ((λ _. no_keys 1535 _ told.bag), tt)))
+pub invariant_of-result : goal.invariant_of-result
+invariant_of-result c = let told = c.open.ensures in record { full = refl; sound = told.sound; holds = λ _. no_keys 1535 _ told.bag }

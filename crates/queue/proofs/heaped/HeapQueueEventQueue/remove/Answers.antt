@@ -8,20 +8,20 @@ use Rattle.queue.proofs.Keeps.{entry_held, taken_out}
 use Rattle.queue.proofs.Writes.{taken_below, refused_stays}
 use Rattle.queue.proofs.heaped.HeapQueueEventQueue.remove.Goals as goal
 
-pub returns-in-err-check-number : goal.returns-in-err-check-number
-returns-in-err-check-number c =
+pub returns-in_err-check_number : goal.returns-in_err-check_number
+returns-in_err-check_number c =
     let q = c.args.self.now in
-    let p = err_from_is_err_and c.from-residual.result c.from-residual.ensures.1 in
-    let told = c.in-err-check-number.ensures in
+    let p = err_from_is_err_and c.from_residual.result c.from_residual.ensures.1 in
+    let told = c.in_err-check_number.ensures in
     record { answer = p.1 ∙ ap Err p.2 ∙ told; after = refused_stays q.times c.args.number None _ q.full told; sized = q.full }
 
-pub invariant-of-self : goal.invariant-of-self
-invariant-of-self c =
+pub invariant_of-self : goal.invariant_of-self
+invariant_of-self c =
     let q = c.args.self.now in
     let n = c.args.number in
-    let below = taken_below n c.in-ok-check-number.ensures in
+    let below = taken_below n c.in_ok-check_number.ensures in
     let in' : n < length q.times = omega (arith, q.full) in
-    let took = c.take-key.ensures in
-    let holds : 1535 ≤ room_of c.take-key.new.heap → KeysOf (set q.times n None) (bag_of c.take-key.new.heap) =
+    let took = c.take_key.ensures in
+    let holds : 1535 ≤ room_of c.take_key.new.heap → KeysOf (set q.times n None) (bag_of c.take_key.new.heap) =
     λ roomy. let h = q.holds (omega (arith, took.room)) in taken_out q.times n in' _ _ h (took.bag (entry_held q.times _ h n)) in
-    (length-set q.times n None ∙ q.full, (took.sound, (holds, tt)))
+    record { full = length-set q.times n None ∙ q.full; sound = took.sound; holds = holds }

@@ -11,30 +11,30 @@ use Rattle.queue.proofs.Keeps.{entry_held, put_in, room_left}
 use Rattle.queue.proofs.Writes.{taken_below, refused_stays}
 use Rattle.queue.proofs.heaped.HeapQueueEventQueue.set.Goals as goal
 
-pub returns-in-err-check-number : goal.returns-in-err-check-number
-returns-in-err-check-number c =
+pub returns-in_err-check_number : goal.returns-in_err-check_number
+returns-in_err-check_number c =
     let q = c.args.self.now in
-    let p = err_from_is_err_and c.from-residual.result c.from-residual.ensures.1 in
-    let told = c.in-err-check-number.ensures in
+    let p = err_from_is_err_and c.from_residual.result c.from_residual.ensures.1 in
+    let told = c.in_err-check_number.ensures in
     record { answer = p.1 ∙ ap Err p.2 ∙ told; after = refused_stays q.times c.args.number (Some c.args.time) _ q.full told; sized = q.full }
 
-pub invariant-of-self : goal.invariant-of-self
-invariant-of-self c =
+pub invariant_of-self : goal.invariant_of-self
+invariant_of-self c =
     let q = c.args.self.now in
     let n = c.args.number in
     let time = c.args.time in
-    let below = taken_below n c.in-ok-check-number.ensures in
+    let below = taken_below n c.in_ok-check_number.ensures in
     let in' : n < length q.times = omega (arith, q.full) in
-    let took = c.take-key.ensures in
+    let took = c.take_key.ensures in
     let put = c.insert.ensures in
-    let left = bag_of c.take-key.new.heap in
+    let left = bag_of c.take_key.new.heap in
     let after = bag_of c.insert.new.self in
     let holds : 1535 ≤ room_of c.insert.new.self → KeysOf (set q.times n (Some time)) after =
     λ roomy.
     let h = q.holds (omega (arith, took.room, put.room)) in
     let out = took.bag (entry_held q.times _ h n) in
-    let some : length left < room_of c.take-key.new.heap = omega (arith, room_left q.times n in' _ left h out, q.full, put.room) in
-    let taken : c.insert.result ≡ Ok tt = put.answer ∙ sym (cond_below (length left) (room_of c.take-key.new.heap) (Ok tt) (Err HeapFull) some) in
+    let some : length left < room_of c.take_key.new.heap = omega (arith, room_left q.times n in' _ left h out, q.full, put.room) in
+    let taken : c.insert.result ≡ Ok tt = put.answer ∙ sym (cond_below (length left) (room_of c.take_key.new.heap) (Ok tt) (Err HeapFull) some) in
     let bag : IsPermutation (record { time = time; number = n } ∷ left) after = subst (λ r. IsPermutation (cond (is_ok r) (record { time = time; number = n } ∷ left) left) after) taken put.bag in
     put_in q.times n in' time _ left after h out bag in
-    (length-set q.times n (Some time) ∙ q.full, (put.sound, (holds, tt)))
+    record { full = length-set q.times n (Some time) ∙ q.full; sound = put.sound; holds = holds }

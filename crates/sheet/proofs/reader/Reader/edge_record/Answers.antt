@@ -4,21 +4,21 @@ use Rattle.sheet.specs.Readers.{ahead, field_of}
 use Rattle.sheet.proofs.Forms.{first_refused, second_refused, cost_refused, code_refused, edge_accepted}
 use Rattle.sheet.proofs.reader.Reader.edge_record.Goals as goal
 
-pub returns-in-default : goal.returns-in-default
-returns-in-default c = let h = first_refused (ahead c.args.self.now) in search rules
+pub returns-in_default : goal.returns-in_default
+returns-in_default c = let h = first_refused (ahead c.args.self.now) in search rules
 
-pub returns-in-default-number : goal.returns-in-default-number
-returns-in-default-number c =
+pub returns-in_default-number : goal.returns-in_default-number
+returns-in_default-number c =
     let h = second_refused (ahead c.args.self.now) (ahead c.number.new.self) c.in-Some-Number.ensures.1 in
     search rules
 
-pub returns-in-default-number-2 : goal.returns-in-default-number-2
-returns-in-default-number-2 c =
+pub returns-in_default-number-2 : goal.returns-in_default-number-2
+returns-in_default-number-2 c =
     let h = cost_refused (ahead c.args.self.now) (ahead c.number.new.self) c.in-Some-Number.ensures.1 (ahead c.number-2.new.self) c.in-Some-Number-number.ensures.1 in
     search rules
 
-pub returns-in-default-code : goal.returns-in-default-code
-returns-in-default-code c =
+pub returns-in_default-code : goal.returns-in_default-code
+returns-in_default-code c =
     let h = code_refused (ahead c.args.self.now) (ahead c.number.new.self) c.in-Some-Number.ensures.1 (ahead c.number-2.new.self) c.in-Some-Number-number.ensures.1 (ahead c.number-3.new.self) c.in-Some-Number-number-2.ensures.1 in
     search rules
 
