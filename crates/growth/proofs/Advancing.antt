@@ -13,7 +13,7 @@ use Rattle.theory.proofs.Laws.{formed_by_number, step_by_number, due_times_kept}
 use Rattle.theory.proofs.Table.{table_length}
 use Rattle.theory.proofs.Valid.{fine}
 use Rattle.growth.specs.Moats.{parts_at}
-use Rattle.growth.specs.Shown.{Shows}
+use Rattle.growth.specs.Shown.{ShowsAll}
 use Rattle.growth.specs.Refreshed.{dues_after, Right, is_at, newest, touched, changed, parts_list, Refreshed}
 use Rattle.growth.specs.declared.tables.Tables.{Tables}
 use Rattle.growth.proofs.Catching.{all_right, none_beyond}
@@ -36,7 +36,7 @@ or_last false true z e h = e
 or_last false false z e h = or_from z false h refl
 
 module _ (net : Net) (v : valid net ≡ true) (k to number : ℕ) (going : ended (grow net k) ≡ false)
-    (is : earliest (dues_after net k) ≡ Some (to, number)) (m : Tables) (shows : Shows net m (step net (grow net k))) where
+    (is : earliest (dues_after net k) ≡ Some (to, number)) (m : Tables) (shows : ShowsAll net m (step net (grow net k))) where
   abbrev st : State
   st = grow net k
 
@@ -60,10 +60,10 @@ module _ (net : Net) (v : valid net ≡ true) (k to number : ℕ) (going : ended
 
   -- one step more is accepted
   pub one_more : m.steps ≡ st.steps + 1
-  one_more = shows.steps ∙ stepped.steps
+  one_more = shows.shown.steps ∙ stepped.steps
 
   pub some_formed : 1 ≤ m.family.formed
-  some_formed = let e = shows.count in let n = stepped.count in ⊎_elim
+  some_formed = let e = shows.shown.count in let n = stepped.count in ⊎_elim
       (λ l. let h = cluster_known net (fine net v) st.time ts to number is l in omega arith)
       (λ l. let z : ◌≡◌ {A = ℕ} (cond (ltb number 511) 0 1) 1 = cond-false (ltb number 511) 0 1 (le-ltb number 511 l) in omega arith)
       (cases_lt number 511)
@@ -82,7 +82,7 @@ module _ (net : Net) (v : valid net ≡ true) (k to number : ℕ) (going : ended
     low_away w l e =
         ap (among (maximal_of ts w)) low_clusters
         ∙ or_from (eqb (maximal_of ts w) number) false
-        (ap (λ c. eqb c number) (sym (shows.memberships w l ∙ low_stays w l)) ∙ ap (eqb (get_or m.nodes.cluster_of w 0)) (sym (cond-true (ltb number 511) number (newest m) (lt-ltb number 511 low))) ∙ e)
+        (ap (λ c. eqb c number) (sym (shows.shown.memberships w l ∙ low_stays w l)) ∙ ap (eqb (get_or m.nodes.cluster_of w 0)) (sym (cond-true (ltb number 511) number (newest m) (lt-ltb number 511 low))) ∙ e)
         refl
 
   module _ (high : 511 ≤ number) where
@@ -94,7 +94,7 @@ module _ (net : Net) (v : valid net ≡ true) (k to number : ℕ) (going : ended
 
     newest_is : newest m ≡ length ts
     newest_is =
-        let e = shows.count in
+        let e = shows.shown.count in
         let n = stepped.count in
         let z : ◌≡◌ {A = ℕ} (cond (ltb number 511) 0 1) 1 = cond-false (ltb number 511) 0 1 (le-ltb number 511 high) in
         omega arith
@@ -102,8 +102,8 @@ module _ (net : Net) (v : valid net ≡ true) (k to number : ℕ) (going : ended
     new_parts : parts_at m.family.clusters (newest m) ≡ Some (p, q)
     new_parts =
         let f = some_formed in
-        let e = shows.count in
-        ap (λ r. r.parts) (shows.records (newest m) (omega arith)) ∙ ap (parts_of next.slots) newest_is ∙ stepped.new_parts high
+        let e = shows.shown.count in
+        ap (λ r. r.parts) (shows.shown.records (newest m) (omega arith)) ∙ ap (parts_of next.slots) newest_is ∙ stepped.new_parts high
 
     high_touched : touched m number ≡ length ts ∷ p ∷ q ∷ []
     high_touched = cond-false (ltb number 511) (number ∷ []) _ (le-ltb number 511 high) ∙ λ i. newest_is i ∷ parts_list (new_parts i)
@@ -124,7 +124,7 @@ module _ (net : Net) (v : valid net ≡ true) (k to number : ℕ) (going : ended
         beyond = ne_eqb (maximal_of ts w) (length ts) (let b = (formed.memberships w l).1 in omega arith)
 
         differs : eqb (maximal_of next.slots w) (length ts) ≡ false
-        differs = ap (λ c. eqb c (length ts)) (sym (shows.memberships w l)) ∙ ap (eqb (get_or m.nodes.cluster_of w 0)) (sym (cond-false (ltb number 511) number (newest m) (le-ltb number 511 high) ∙ newest_is)) ∙ e
+        differs = ap (λ c. eqb c (length ts)) (sym (shows.shown.memberships w l)) ∙ ap (eqb (get_or m.nodes.cluster_of w 0)) (sym (cond-false (ltb number 511) number (newest m) (le-ltb number 511 high) ∙ newest_is)) ∙ e
 
         by : ((eqb (maximal_of ts w) p || (eqb (maximal_of ts w) q || false)) ≡ true) ⊎ ((eqb (maximal_of ts w) p || (eqb (maximal_of ts w) q || false)) ≡ false) → (eqb (maximal_of ts w) p || (eqb (maximal_of ts w) q || false)) ≡ false
         by (inl t) = absurd (eqb-false (maximal_of next.slots w) (length ts) differs (moved w l ∙ cond-true _ (length ts) (maximal_of ts w) t))

@@ -4,7 +4,7 @@ use Rattle.theory.specs.Due.{earliest, due_times}
 use Rattle.theory.specs.Growth.{State, active_count, ended, unless_ended, advance, step, grow}
 use Rattle.theory.proofs.Laws.{formed_by_number}
 use Rattle.growth.specs.Events.{growing}
-use Rattle.growth.specs.Shown.{Shows}
+use Rattle.growth.specs.Shown.{ShowsAll}
 use Rattle.growth.specs.Grown.{network_of, steps_of, state_of, Sound, next_due}
 use Rattle.growth.specs.Refreshed.{dues_after, Refreshed}
 use Rattle.growth.specs.declared.engine.Growth.{Growth}
@@ -39,16 +39,16 @@ module _ {Q : Type 0} (table : Q → List (Option ℕ)) (g : Growth Q) (sound : 
     pub first_is : earliest (dues_after (network_of g) (steps_of g)) ≡ Some (to, number)
     first_is = sym (due ∙ ap (λ b. cond b None (earliest (dues_after (network_of g) (steps_of g)))) going)
 
-    module _ (m : Tables) (shows : Shows (network_of g) m (step (network_of g) (state_of g))) where
+    module _ (m : Tables) (shows : ShowsAll (network_of g) m (step (network_of g) (state_of g))) where
       pub some_formed : 1 ≤ m.family.formed
       some_formed = Advancing.some_formed (network_of g) sound.entered (steps_of g) to number going first_is m shows
 
       -- the steps say how far it has grown
       pub next_state : grow (network_of g) m.steps ≡ step (network_of g) (state_of g)
-      next_state = ap (grow (network_of g)) (one_more (network_of g) sound.entered (steps_of g) to number going first_is m shows ∙ ap (λ x. x + 1) (sym sound.shown.steps) ∙ add-one (steps_of g))
+      next_state = ap (grow (network_of g)) (one_more (network_of g) sound.entered (steps_of g) to number going first_is m shows ∙ ap (λ x. x + 1) (sym sound.shown.shown.steps) ∙ add-one (steps_of g))
 
-      pub next_shown : Shows (network_of g) m (grow (network_of g) m.steps)
-      next_shown = subst (Shows (network_of g) m) (sym next_state) shows
+      pub next_shown : ShowsAll (network_of g) m (grow (network_of g) m.steps)
+      next_shown = subst (ShowsAll (network_of g) m) (sym next_state) shows
 
       pub next_queue : (q : Q) → Refreshed (network_of g) m number (dues_after (network_of g) m.steps) (table g.queue) (table q) → table q ≡ dues_after (network_of g) m.steps
       next_queue q fresh =

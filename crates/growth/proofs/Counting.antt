@@ -11,7 +11,7 @@ use Rattle.theory.specs.ByNumber.{Formed}
 use Rattle.theory.proofs.Sums.{sum_to_same}
 use Rattle.growth.specs.Records.{vacant, is_growing}
 use Rattle.growth.specs.Events.{growing}
-use Rattle.growth.specs.Shown.{Shows}
+use Rattle.growth.specs.Shown.{ShowsAll}
 use Rattle.growth.specs.declared.tables.Tables.{Tables}
 use Rattle.growth.proofs.Growing.{growing_any, idle_past}
 
@@ -45,13 +45,13 @@ on_slot : (x : Slot) → on_maximal (λ t. one (cluster_active t)) x ≡ one (sl
 on_slot (maximal t) = refl
 on_slot inside = refl
 
-pub growing_count : (net : Net) (t : Tables) (st : State) → Formed (node_count net) st.slots → Shows net t st → growing t.family.clusters ≡ active_count st
+pub growing_count : (net : Net) (t : Tables) (st : State) → Formed (node_count net) st.slots → ShowsAll net t st → growing t.family.clusters ≡ active_count st
 growing_count net t st formed shows =
     let ts = st.slots in
     let cs = t.family.clusters in
     let w = t.family.whole in
     let k = t.family.within in
-    let e = shows.count in
+    let e = shows.shown.count in
     sum_to_same (length cs) (λ c. one (is_growing (get_or cs c vacant))) (λ c. one (active_at ts c)) (λ c l. ap one (growing_any net t st formed shows c))
     ∙ sum_to_more (length cs) (length ts) (λ c. one (active_at ts c)) (omega arith) (λ c l. ap one (idle_past net t st formed shows c l))
     ∙ sum_to_same (length ts) (λ c. one (active_at ts c)) (λ c. on_maximal (λ t. one (cluster_active t)) (get_or ts c inside)) (λ c l. sym (on_slot (get_or ts c inside)))

@@ -17,7 +17,7 @@ use Rattle.theory.proofs.Slots.{maximal_all}
 use Rattle.theory.proofs.Valid.{fine}
 use Rattle.growth.specs.Records.{vacant}
 use Rattle.growth.specs.Events.{growing}
-use Rattle.growth.specs.Shown.{Shows}
+use Rattle.growth.specs.Shown.{ShowsAll}
 use Rattle.growth.specs.declared.tables.Tables.{Tables}
 use Rattle.growth.proofs.Counting.{growing_count}
 use Rattle.growth.proofs.Entries.{entered, edge_known}
@@ -28,7 +28,7 @@ every_at P ts every c u e =
     let f = cluster_of_in ts c u e in
     deep_inside P f.3 (maximal_all (Deep P) ts f.0 f.1 every f.2)
 
-module _ (net : Net) (v : valid net ≡ true) (k : ℕ) (t : Tables) (shows : Shows net t (grow net k)) where
+module _ (net : Net) (v : valid net ≡ true) (k : ℕ) (t : Tables) (shows : ShowsAll net t (grow net k)) where
   formed : Formed (node_count net) (grow net k).slots
   formed = formed_by_number net v k
 
@@ -36,14 +36,14 @@ module _ (net : Net) (v : valid net ≡ true) (k : ℕ) (t : Tables) (shows : Sh
   small = numbers_stay_small net v k
 
   pub steps_small : t.steps ≤ 512
-  steps_small = let a = (counted net (fine net v) k).falls in let few = (fine net v).few_nodes in let e = shows.steps in omega arith
+  steps_small = let a = (counted net (fine net v) k).falls in let few = (fine net v).few_nodes in let e = shows.shown.steps in omega arith
 
   pub moat_small : (c : ℕ) → (get_or t.family.clusters c vacant).moat ≤ most_prizes
   moat_small c = ⊎_elim
       (λ l. let u = formed.clusters c l in
       let s = every_at (λ u. (moat u ≤ inner u) × (inner u ≤ over (doubled_prize net) u) × (over (doubled_prize net) u ≤ most_prizes)) (grow net k).slots small.inners c u.0 u.1 in
       let e : moat_of (grow net k).slots c ≡ moat u.0 = ap (told moat 0) u.1 in
-      let r : (get_or t.family.clusters c vacant).moat ≡ moat_of (grow net k).slots c = ap (λ r. r.moat) (shows.records c l) in
+      let r : (get_or t.family.clusters c vacant).moat ≡ moat_of (grow net k).slots c = ap (λ r. r.moat) (shows.shown.records c l) in
       omega arith)
       (λ l. let r : (get_or t.family.clusters c vacant).moat ≡ 0 = ap (λ r. r.moat) (shows.vacants c l) in omega arith)
       (cases_lt c (length (grow net k).slots))
@@ -56,7 +56,7 @@ module _ (net : Net) (v : valid net ≡ true) (k : ℕ) (t : Tables) (shows : Sh
     next_small = numbers_stay_small net v (suc k)
 
     pub later : t.time ≤ to
-    later = let a = stepped.later in let e = shows.time in omega arith
+    later = let a = stepped.later in let e = shows.shown.time in omega arith
 
     to_small : to ≤ 514000000000
     to_small = (small.dues number to (entered net (fine net v) (grow net k).time (grow net k).slots to number is)).1
@@ -65,11 +65,11 @@ module _ (net : Net) (v : valid net ≡ true) (k : ℕ) (t : Tables) (shows : Sh
     moats_fit c = let a = moat_small c in let b = to_small in omega arith
 
     pub depths_fit : (w : ℕ) → w < node_count net → get_or t.nodes.depths w 0 + (to - t.time) < 2 ^ 64
-    depths_fit w l = let a = shows.deep w l in let b = small.depths w in let d = small.time in let e = to_small in omega arith
+    depths_fit w l = let a = shows.shown.deep w l in let b = small.depths w in let d = small.time in let e = to_small in omega arith
 
     pub total_fits : t.total + (to - t.time) * growing t.family.clusters < 2 ^ 64
     total_fits =
-        let a : t.total + (to - t.time) * growing t.family.clusters ≡ _ = (λ i. shows.moats i + (to - shows.time i) * growing_count net t (grow net k) formed shows i) ∙ sym stepped.moats_total in
+        let a : t.total + (to - t.time) * growing t.family.clusters ≡ _ = (λ i. shows.shown.moats i + (to - shows.shown.time i) * growing_count net t (grow net k) formed shows i) ∙ sym stepped.moats_total in
         let b = next_small.moats in
         omega arith
 
@@ -88,10 +88,10 @@ module _ (net : Net) (v : valid net ≡ true) (k : ℕ) (t : Tables) (shows : Sh
     second_known high = (fine net v).seconds (number - 511) (edge_known net (fine net v) (grow net k).time (grow net k).slots to number is high)
 
     pub first_is : 511 ≤ number → get_or t.nodes.cluster_of (first_end net (number - 511)) 0 ≡ maximal_of (grow net k).slots (first_end net (number - 511))
-    first_is high = shows.memberships (first_end net (number - 511)) (first_known high)
+    first_is high = shows.shown.memberships (first_end net (number - 511)) (first_known high)
 
     pub second_is : 511 ≤ number → get_or t.nodes.cluster_of (second_end net (number - 511)) 0 ≡ maximal_of (grow net k).slots (second_end net (number - 511))
-    second_is high = shows.memberships (second_end net (number - 511)) (second_known high)
+    second_is high = shows.shown.memberships (second_end net (number - 511)) (second_known high)
 
     pub first_below : 511 ≤ number → maximal_of (grow net k).slots (first_end net (number - 511)) < 511
     first_below high = let b = (formed.memberships (first_end net (number - 511)) (first_known high)).1 in let s = small.clusters in omega arith

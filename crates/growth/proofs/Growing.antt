@@ -14,7 +14,7 @@ use Rattle.theory.specs.Growth.{State}
 use Rattle.theory.specs.ByNumber.{Formed}
 use Rattle.growth.specs.Records.{vacant, phase_active, is_growing}
 use Rattle.growth.specs.NodeTables.{grows_at}
-use Rattle.growth.specs.Shown.{phase_shown, Shows}
+use Rattle.growth.specs.Shown.{phase_shown, ShowsAll}
 use Rattle.growth.specs.declared.tables.Tables.{Tables}
 
 pub same_phase : (p : theory.Phase) → phase_active (phase_shown p) ≡ is_active p
@@ -27,10 +27,10 @@ turned true false = refl
 turned false true = refl
 turned false false = refl
 
-module _ (net : Net) (t : Tables) (st : State) (formed : Formed (node_count net) st.slots) (shows : Shows net t st) where
+module _ (net : Net) (t : Tables) (st : State) (formed : Formed (node_count net) st.slots) (shows : ShowsAll net t st) where
   pub growing_shown : (c : ℕ) → c < length st.slots → is_growing (get_or t.family.clusters c vacant) ≡ active_at st.slots c
   growing_shown c l =
-      ap is_growing (shows.records c l)
+      ap is_growing (shows.shown.records c l)
       ∙ ap (λ a. a && is_maximal st.slots c) (same_phase (phase_of st.slots c))
       ∙ turned (is_active (phase_of st.slots c)) (is_maximal st.slots c)
       ∙ sym (formed.activity c l)
@@ -43,6 +43,6 @@ module _ (net : Net) (t : Tables) (st : State) (formed : Formed (node_count net)
 
   pub grows_shown : (c : ℕ) → grows_at t.family.clusters c ≡ active_at st.slots c
   grows_shown c = ⊎_elim
-      (λ l. ap (λ b. b && is_growing (get_or t.family.clusters c vacant)) (lt-ltb c (length t.family.clusters) (let w = t.family.whole in let k = t.family.within in let e = shows.count in omega arith)) ∙ growing_any c)
+      (λ l. ap (λ b. b && is_growing (get_or t.family.clusters c vacant)) (lt-ltb c (length t.family.clusters) (let w = t.family.whole in let k = t.family.within in let e = shows.shown.count in omega arith)) ∙ growing_any c)
       (λ l. and_right (ltb c (length t.family.clusters)) _ (growing_any c ∙ idle_past c l) ∙ sym (idle_past c l))
       (cases_lt c (length st.slots))

@@ -18,7 +18,7 @@ use Rattle.theory.proofs.Valid.{fine}
 use Rattle.growth.specs.Records.{vacant, is_growing, widened, inactivated, enclosed, at_record, merged_records}
 use Rattle.growth.specs.NodeTables.{regrouped}
 use Rattle.growth.specs.Events.{Passed}
-use Rattle.growth.specs.Shown.{phase_shown, record_shown, Shows}
+use Rattle.growth.specs.Shown.{phase_shown, record_shown, ShowsAll}
 use Rattle.growth.specs.declared.cluster.Cluster.{Cluster}
 use Rattle.growth.specs.declared.tables.Tables.{Tables}
 use Rattle.growth.proofs.Growing.{growing_shown, grows_shown}
@@ -59,7 +59,7 @@ eqb_sym a b = ⊎_elim (λ e. eq-eqb a b e ∙ sym (eq-eqb b a (sym e))) (λ e. 
 
 module _ (net : Net) (v : valid net ≡ true) (k to number : ℕ) (going : ended (grow net k) ≡ false)
     (is : earliest (due_times net (grow net k).time (grow net k).slots) ≡ Some (to, number))
-    (t m u : Tables) (shows : Shows net t (grow net k)) (passed : Passed (node_count net) to t m) where
+    (t m u : Tables) (shows : ShowsAll net t (grow net k)) (passed : Passed (node_count net) to t m) where
   abbrev st : State
   st = grow net k
 
@@ -76,10 +76,10 @@ module _ (net : Net) (v : valid net ≡ true) (k to number : ℕ) (going : ended
   stepped = step_by_number net v k to number going is
 
   same_by : to - t.time ≡ to - st.time
-  same_by = ap (λ x. to - x) shows.time
+  same_by = ap (λ x. to - x) shows.shown.time
 
   within : length ts ≤ 511
-  within = let a = t.family.within in let e = shows.count in omega arith
+  within = let a = t.family.within in let e = shows.shown.count in omega arith
 
   long : length m.family.clusters ≡ 511
   long = m.family.whole
@@ -87,7 +87,7 @@ module _ (net : Net) (v : valid net ≡ true) (k to number : ℕ) (going : ended
   -- a cluster's moat, as time passes
   moat_grows : (c : ℕ) → c < length ts → moat_of ts c + cond (is_growing (record_shown ts c)) (to - t.time) 0 ≡ moat_of next.slots c
   moat_grows c l =
-      (λ i. moat_of ts c + cond ((ap is_growing (sym (shows.records c l)) ∙ growing_shown net t st formed shows c l) i) (same_by i) 0)
+      (λ i. moat_of ts c + cond ((ap is_growing (sym (shows.shown.records c l)) ∙ growing_shown net t st formed shows c l) i) (same_by i) 0)
       ∙ sym (stepped.moats c l)
 
   -- a record, if its cluster is in this state and maximal or not
@@ -99,7 +99,7 @@ module _ (net : Net) (v : valid net ≡ true) (k to number : ℕ) (going : ended
   passed_record c l =
       ap (λ r. get_or r c vacant) passed.clusters
       ∙ get_or-map (widened (to - t.time)) t.family.clusters c vacant vacant (let w = t.family.whole in let n = within in omega arith)
-      ∙ ap (widened (to - t.time)) (shows.records c l)
+      ∙ ap (widened (to - t.time)) (shows.shown.records c l)
 
   passed_vacant : (c : ℕ) → length ts ≤ c → get_or m.family.clusters c vacant ≡ vacant
   passed_vacant c l = ⊎_elim
@@ -110,17 +110,17 @@ module _ (net : Net) (v : valid net ≡ true) (k to number : ℕ) (going : ended
   deepened : (w : ℕ) → w < node_count net → get_or m.nodes.depths w 0 ≡ depth next.slots w
   deepened w l =
       passed.depths w l
-      ∙ (λ i. shows.deep w l i + cond ((grows_shown net t st formed shows (get_or t.nodes.cluster_of w 0) ∙ ap (active_at ts) (shows.memberships w l)) i) (same_by i) 0)
+      ∙ (λ i. shows.shown.deep w l i + cond ((grows_shown net t st formed shows (get_or t.nodes.cluster_of w 0) ∙ ap (active_at ts) (shows.shown.memberships w l)) i) (same_by i) 0)
       ∙ sym (stepped.depths w l)
 
   totalled : m.total ≡ total next
-  totalled = passed.total ∙ (λ i. shows.moats i + same_by i * growing_count net t st formed shows i) ∙ sym stepped.moats_total
+  totalled = passed.total ∙ (λ i. shows.shown.moats i + same_by i * growing_count net t st formed shows i) ∙ sym stepped.moats_total
 
   timed : m.time ≡ next.time
   timed = passed.time ∙ sym stepped.time
 
   counted : m.steps ≡ next.steps
-  counted = passed.steps ∙ ap (λ x. x + 1) shows.steps ∙ sym stepped.steps
+  counted = passed.steps ∙ ap (λ x. x + 1) shows.shown.steps ∙ sym stepped.steps
 
   module _ (low : number < 511) where
     no_merge : merging net ts number ≡ []
@@ -133,17 +133,20 @@ module _ (net : Net) (v : valid net ≡ true) (k to number : ℕ) (going : ended
     still_maximal c l = stepped.maximals c l ∙ ap (λ ms. is_maximal ts c && not (among c ms)) no_merge ∙ and_true (is_maximal ts c)
 
     pub shows_deactivated : u.family.clusters ≡ at_record inactivated m.family.clusters number → u.family.formed ≡ m.family.formed → u.nodes ≡ m.nodes → u.chosen ≡ m.chosen →
-        u.time ≡ m.time → u.steps ≡ m.steps → u.total ≡ m.total → Shows net u next
+        u.time ≡ m.time → u.steps ≡ m.steps → u.total ≡ m.total → ShowsAll net u next
     shows_deactivated clusters count nodes edges time steps moats = record {
-      count = count ∙ passed.formed ∙ shows.count ∙ sym still_count;
-      records = λ c l. ap (λ r. get_or r c vacant) clusters ∙ at c (let e = still_count in omega arith);
+      shown = record {
+        count = count ∙ passed.formed ∙ shows.shown.count ∙ sym still_count;
+        records = λ c l. ap (λ r. get_or r c vacant) clusters ∙ at c (let e = still_count in omega arith);
+        memberships = λ w l. ap (λ n. get_or n.cluster_of w 0) nodes ∙ ap (λ r. get_or r w 0) passed.memberships ∙ shows.shown.memberships w l ∙ sym (stays w l);
+        deep = λ w l. ap (λ n. get_or n.depths w 0) nodes ∙ deepened w l;
+        edges = λ s _. all_chosen s;
+        time = time ∙ timed;
+        steps = steps ∙ counted;
+        moats = moats ∙ totalled;
+      };
       vacants = λ c l. ap (λ r. get_or r c vacant) clusters ∙ beyond c (let e = still_count in omega arith);
-      memberships = λ w l. ap (λ n. get_or n.cluster_of w 0) nodes ∙ ap (λ r. get_or r w 0) passed.memberships ∙ shows.memberships w l ∙ sym (stays w l);
-      deep = λ w l. ap (λ n. get_or n.depths w 0) nodes ∙ deepened w l;
-      edges = λ s. ap (λ e. get_or e.marks s 0) edges ∙ ap (λ r. get_or r s 0) passed.edges ∙ shows.edges s ∙ ap one (sym (kept s));
-      time = time ∙ timed;
-      steps = steps ∙ counted;
-      moats = moats ∙ totalled;
+      all_edges = all_chosen;
     }
       where
         at : (c : ℕ) → c < length ts → get_or (at_record inactivated m.family.clusters number) c vacant ≡ record_shown next.slots c
@@ -161,6 +164,9 @@ module _ (net : Net) (v : valid net ≡ true) (k to number : ℕ) (going : ended
 
         kept : (s : ℕ) → chosen next.slots s ≡ chosen ts s
         kept s = stepped.edges s ∙ ap (λ b. chosen ts s || (not b && eqb (number - 511) s)) (lt-ltb number 511 low) ∙ or_none (chosen ts s)
+
+        all_chosen : (s : ℕ) → get_or u.chosen.marks s 0 ≡ one (chosen next.slots s)
+        all_chosen = λ s. ap (λ e. get_or e.marks s 0) edges ∙ ap (λ r. get_or r s 0) passed.edges ∙ shows.all_edges s ∙ ap one (sym (kept s))
 
   module _ (high : 511 ≤ number) where
     abbrev edge : ℕ
@@ -218,7 +224,7 @@ module _ (net : Net) (v : valid net ≡ true) (k to number : ℕ) (going : ended
     regrouped_at : (w : ℕ) → w < node_count net → get_or (map (regrouped p q (length ts)) m.nodes.cluster_of) w 0 ≡ maximal_of next.slots w
     regrouped_at w l =
         get_or-map (regrouped p q (length ts)) m.nodes.cluster_of w 0 0 (let e = m.nodes.clusters_whole in let few = (fine net v).few_nodes in omega arith)
-        ∙ ap (regrouped p q (length ts)) (ap (λ r. get_or r w 0) passed.memberships ∙ shows.memberships w l)
+        ∙ ap (regrouped p q (length ts)) (ap (λ r. get_or r w 0) passed.memberships ∙ shows.shown.memberships w l)
         ∙ ap (λ b. cond (eqb (maximal_of ts w) p || b) (length ts) (maximal_of ts w)) (sym (or_none (eqb (maximal_of ts w) q)))
         ∙ ap (λ ms. cond (among (maximal_of ts w) ms) (length ts) (maximal_of ts w)) (sym merges)
         ∙ sym (stepped.memberships w l)
@@ -226,25 +232,31 @@ module _ (net : Net) (v : valid net ≡ true) (k to number : ℕ) (going : ended
     chosen_at : (s : ℕ) → get_or (set m.chosen.marks edge 1) s 0 ≡ one (chosen next.slots s)
     chosen_at s =
         get_d_set m.chosen.marks edge 1 (let w = m.chosen.whole in let e = edge_known net (fine net v) st.time ts to number is high in let few = (fine net v).few_edges in omega arith) s
-        ∙ ap (λ x. cond (eqb s edge) 1 x) (ap (λ r. get_or r s 0) passed.edges ∙ shows.edges s)
+        ∙ ap (λ x. cond (eqb s edge) 1 x) (ap (λ r. get_or r s 0) passed.edges ∙ shows.all_edges s)
         ∙ marked_too (eqb s edge) (chosen ts s)
         ∙ ap (λ b. one (chosen ts s || b)) (eqb_sym s edge)
         ∙ ap (λ b. one (chosen ts s || (not b && eqb edge s))) (sym (le-ltb number 511 high))
         ∙ ap one (sym (stepped.edges s))
 
     pub shows_merged : length ts < 511 → u.family.clusters ≡ records → u.family.formed ≡ length ts + 1 → u.nodes.cluster_of ≡ map (regrouped p q (length ts)) m.nodes.cluster_of →
-        u.nodes.depths ≡ m.nodes.depths → u.chosen.marks ≡ set m.chosen.marks edge 1 → u.time ≡ m.time → u.steps ≡ m.steps → u.total ≡ m.total → Shows net u next
+        u.nodes.depths ≡ m.nodes.depths → u.chosen.marks ≡ set m.chosen.marks edge 1 → u.time ≡ m.time → u.steps ≡ m.steps → u.total ≡ m.total → ShowsAll net u next
     shows_merged room clusters count memberships depths edges time steps moats = record {
-      count = count ∙ sym one_more;
-      records = λ c l. ap (λ r. get_or r c vacant) clusters ∙ ⊎_elim (λ h. old_at c h) (λ h. newest c (let e = one_more in omega arith)) (cases_lt c (length ts));
+      shown = record {
+        count = count ∙ sym one_more;
+        records = λ c l. ap (λ r. get_or r c vacant) clusters ∙ ⊎_elim (λ h. old_at c h) (λ h. newest c (let e = one_more in omega arith)) (cases_lt c (length ts));
+        memberships = λ w l. ap (λ r. get_or r w 0) memberships ∙ regrouped_at w l;
+        deep = λ w l. ap (λ r. get_or r w 0) depths ∙ deepened w l;
+        edges = λ s _. all_chosen s;
+        time = time ∙ timed;
+        steps = steps ∙ counted;
+        moats = moats ∙ totalled;
+      };
       vacants = λ c l. ap (λ r. get_or r c vacant) clusters ∙ vacant_at c (let e = one_more in omega arith);
-      memberships = λ w l. ap (λ r. get_or r w 0) memberships ∙ regrouped_at w l;
-      deep = λ w l. ap (λ r. get_or r w 0) depths ∙ deepened w l;
-      edges = λ s. ap (λ r. get_or r s 0) edges ∙ chosen_at s;
-      time = time ∙ timed;
-      steps = steps ∙ counted;
-      moats = moats ∙ totalled;
+      all_edges = all_chosen;
     }
       where
+        all_chosen : (s : ℕ) → get_or u.chosen.marks s 0 ≡ one (chosen next.slots s)
+        all_chosen = λ s. ap (λ r. get_or r s 0) edges ∙ chosen_at s
+
         newest : (c : ℕ) → c ≡ length ts → get_or records c vacant ≡ record_shown next.slots c
         newest c e = ap (λ j. get_or records j vacant) e ∙ new_at room ∙ ap (record_shown next.slots) (sym e)

@@ -18,7 +18,7 @@ use Rattle.pruning.specs.Written.{too_short, unless_short}
 use Rattle.pruning.specs.declared.shape.Shape.{Shape}
 use Rattle.pruning.proofs.Bridges.{plan_in_grown, strong_plan_in_grown}
 use Rattle.growth.specs.Records.{vacant}
-use Rattle.growth.specs.Shown.{Shows}
+use Rattle.growth.specs.Shown.{ShowsAll}
 use Rattle.growth.specs.Plans.{shape_of, no_plan, plan_refusal, unless_refused, plan_answer, marks_written, nodes_written, edges_written}
 use Rattle.growth.specs.declared.tables.Tables.{Tables}
 use Rattle.growth.proofs.Growing.{same_phase}
@@ -78,7 +78,7 @@ module _ (net : Net) (st : State) where
     pub planned_edges : unless_short (too_short net nodes edges) q.edge_marks (edge_count net) edges ≡ edges_written net st p nodes edges
     planned_edges = short_marks (too_short net nodes edges) q.edge_marks (edge_count net) edges ∙ λ i. marks_written (only_short i) (same i).edge_marks (edge_count net) edges
 
-module _ (net : Net) (v : valid net ≡ true) (k : ℕ) (t : Tables) (shows : Shows net t (grow net k)) where
+module _ (net : Net) (v : valid net ≡ true) (k : ℕ) (t : Tables) (shows : ShowsAll net t (grow net k)) where
   -- the shapes of the formed clusters
   abbrev formed_shapes : List Shape
   formed_shapes = take (t.family.formed - 0) (map shape_of t.family.clusters)
@@ -90,7 +90,7 @@ module _ (net : Net) (v : valid net ≡ true) (k : ℕ) (t : Tables) (shows : Sh
   shapes_long =
       let all = all_shapes in
       let within = t.family.within in
-      let count = shows.count in
+      let count = shows.shown.count in
       length-take-le (t.family.formed - 0) (map shape_of t.family.clusters) (omega arith) ∙ omega arith
 
   -- there are no more of them than pruning heeds
@@ -98,17 +98,17 @@ module _ (net : Net) (v : valid net ≡ true) (k : ℕ) (t : Tables) (shows : Sh
   few_shapes =
       let long = shapes_long in
       let within = t.family.within in
-      let count = shows.count in
+      let count = shows.shown.count in
       omega arith
 
   shapes_shown : (c : ℕ) → c < length (grow net k).slots → get_or formed_shapes c no_shape ≡ shape_shown (grow net k).slots c
   shapes_shown c l =
       let whole = t.family.whole in
       let within = t.family.within in
-      let count = shows.count in
+      let count = shows.shown.count in
       get_or-take (t.family.formed - 0) (map shape_of t.family.clusters) c no_shape (omega arith)
       ∙ get_or-map shape_of t.family.clusters c vacant no_shape (omega arith)
-      ∙ ap shape_of (shows.records c l)
+      ∙ ap shape_of (shows.shown.records c l)
       ∙ ap (λ b. record { parts = parts_of (grow net k).slots c; inactive = not b }) (same_phase (phase_of (grow net k).slots c))
 
   pub plan_shown : (nodes : List ℕ) → marked nodes ≡ grown_node (grow net k).slots → (shapes : List Shape) → shapes ≡ map shape_of t.family.clusters →

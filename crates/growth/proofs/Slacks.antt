@@ -11,7 +11,7 @@ use Rattle.theory.specs.Laws.{Small}
 use Rattle.theory.proofs.Table.{edge_due_none}
 use Rattle.theory.proofs.Valid.{Fine}
 use Rattle.growth.specs.NodeTables.{grows_at}
-use Rattle.growth.specs.Shown.{Shows}
+use Rattle.growth.specs.Shown.{ShowsAll}
 use Rattle.growth.specs.declared.tables.Tables.{Tables}
 use Rattle.growth.proofs.Growing.{grows_shown}
 
@@ -30,18 +30,18 @@ pub record Between (net : Net) (t : Tables) (st : State) (s f g k : ℕ) : Type 
   pub within : cluster_at t f ≢ cluster_at t g → depths_at t f g ≤ 2 * k
   pub due : cluster_at t f ≢ cluster_at t g → slack_due (grows_at t.family.clusters (cluster_at t f)) (grows_at t.family.clusters (cluster_at t g)) t.time (2 * k - depths_at t f g) ≡ edge_due net st.time st.slots s
 
-module _ (net : Net) (t : Tables) (st : State) (fine : Fine net) (formed : Formed (node_count net) st.slots) (small : Small net st) (shows : Shows net t st) where
+module _ (net : Net) (t : Tables) (st : State) (fine : Fine net) (formed : Formed (node_count net) st.slots) (small : Small net st) (shows : ShowsAll net t st) where
   module _ (s f g k : ℕ) (l : s < edge_count net) (first : f ≡ first_end net s) (second : g ≡ second_end net s) (costs : k ≡ cost net s) where
     first_in : cluster_at t f ≡ maximal_of st.slots (first_end net s)
-    first_in = ap (cluster_at t) first ∙ shows.memberships (first_end net s) (fine.firsts s l)
+    first_in = ap (cluster_at t) first ∙ shows.shown.memberships (first_end net s) (fine.firsts s l)
 
     second_in : cluster_at t g ≡ maximal_of st.slots (second_end net s)
-    second_in = ap (cluster_at t) second ∙ shows.memberships (second_end net s) (fine.seconds s l)
+    second_in = ap (cluster_at t) second ∙ shows.shown.memberships (second_end net s) (fine.seconds s l)
 
     deep : depths_at t f g ≡ depth st.slots (first_end net s) + depth st.slots (second_end net s)
     deep =
-        let a = ap (λ v. get_or t.nodes.depths v 0) first ∙ shows.deep (first_end net s) (fine.firsts s l) in
-        let b = ap (λ v. get_or t.nodes.depths v 0) second ∙ shows.deep (second_end net s) (fine.seconds s l) in
+        let a = ap (λ v. get_or t.nodes.depths v 0) first ∙ shows.shown.deep (first_end net s) (fine.firsts s l) in
+        let b = ap (λ v. get_or t.nodes.depths v 0) second ∙ shows.shown.deep (second_end net s) (fine.seconds s l) in
         λ i. a i + b i
 
     apart : cluster_at t f ≢ cluster_at t g → maximal_of st.slots (first_end net s) ≢ maximal_of st.slots (second_end net s)
@@ -52,7 +52,7 @@ module _ (net : Net) (t : Tables) (st : State) (fine : Fine net) (formed : Forme
     shown =
         let a = grows_shown net t st formed shows (cluster_at t f) ∙ ap (active_at st.slots) first_in in
         let b = grows_shown net t st formed shows (cluster_at t g) ∙ ap (active_at st.slots) second_in in
-        λ i. slack_due (a i) (b i) (shows.time i) (2 * costs i - deep i)
+        λ i. slack_due (a i) (b i) (shows.shown.time i) (2 * costs i - deep i)
 
     pub between : Between net t st s f g k
     between = record {
@@ -61,7 +61,7 @@ module _ (net : Net) (t : Tables) (st : State) (fine : Fine net) (formed : Forme
           let b = small.depths (second_end net s) in
           let c = small.time in
           let d = deep in
-          let e = shows.time in
+          let e = shows.shown.time in
           let h = fine.costs s in
           (omega arith, omega arith, omega arith);
       one = λ e. edge_due_none net st.time st.slots s (sym first_in ∙ e ∙ second_in);

@@ -16,7 +16,7 @@ use Rattle.theory.proofs.Numbers.{cluster_of_in}
 use Rattle.theory.proofs.Slots.{maximal_below, maximal_all}
 use Rattle.theory.proofs.Sums.{sum_to_same}
 use Rattle.growth.specs.Moats.{Falls, reach, parts_at, moat_at, inner_moats}
-use Rattle.growth.specs.Shown.{Shows}
+use Rattle.growth.specs.Shown.{ShowsAll}
 use Rattle.growth.specs.Sums.{prizes_in}
 use Rattle.growth.specs.declared.tables.Tables.{Tables}
 use Rattle.growth.proofs.Levels.{inner_moats_parts}
@@ -49,9 +49,9 @@ pub record Running (net : Net) (t : Tables) (st : State) (c : ℕ) : Type 0 wher
   pub fits : t.time + (prizes_of net t c - inner_moats t.family.clusters c) < 2 ^ 64
   pub due : cluster_due net st.time (get_or st.slots c inside) ≡ Some (t.time + (prizes_of net t c - inner_moats t.family.clusters c))
 
-module _ (net : Net) (t : Tables) (st : State) (formed : Formed (node_count net) st.slots) (shows : Shows net t st) where
+module _ (net : Net) (t : Tables) (st : State) (formed : Formed (node_count net) st.slots) (shows : ShowsAll net t st) where
   parts_shown : (c : ℕ) → c < length st.slots → parts_at t.family.clusters c ≡ parts_of st.slots c
-  parts_shown c l = ap (λ r. r.parts) (shows.records c l)
+  parts_shown c l = ap (λ r. r.parts) (shows.shown.records c l)
 
   parts_past : (c : ℕ) → length st.slots ≤ c → parts_at t.family.clusters c ≡ None
   parts_past c l = ap (λ r. r.parts) (shows.vacants c l)
@@ -68,7 +68,7 @@ module _ (net : Net) (t : Tables) (st : State) (formed : Formed (node_count net)
   inner_below (suc n) c b l = by (parts_of st.slots c) (parts_shown c l) (formed.parted c l) (λ a h. inner_below n a (omega arith) (omega arith))
     where
       own : moat_at t.family.clusters c ≡ moat_of st.slots c
-      own = ap (λ r. r.moat) (shows.records c l)
+      own = ap (λ r. r.moat) (shows.shown.records c l)
 
       by : (o : Option (ℕ × ℕ)) → parts_at t.family.clusters c ≡ o → Parted st.slots (node_count net) c o →
           ((a : ℕ) → a < c → inner_moats t.family.clusters a ≡ inner_of st.slots a) → inner_moats t.family.clusters c ≡ inner_of st.slots c
@@ -86,7 +86,7 @@ module _ (net : Net) (t : Tables) (st : State) (formed : Formed (node_count net)
 
   prizes_shown : (c : ℕ) (u : theory.Cluster) → get_or st.slots c inside ≡ maximal u → prizes_of net t c ≡ over (doubled_prize net) u
   prizes_shown c u e =
-      sum_to_same (node_count net) _ _ (λ v l. ap (λ k. cond (eqb k c) (doubled_prize net v) 0) (shows.memberships v l))
+      sum_to_same (node_count net) _ _ (λ v l. ap (λ k. cond (eqb k c) (doubled_prize net v) 0) (shows.shown.memberships v l))
       ∙ sym (formed.sums c u e (doubled_prize net))
 
   module _ (small : Small net st) where
@@ -116,7 +116,7 @@ module _ (net : Net) (t : Tables) (st : State) (formed : Formed (node_count net)
         let b = bounds c u at in
         let i : inner_moats t.family.clusters c ≡ inner u = inner_shown c l ∙ ap (told inner 0) at in
         let p = prizes_shown c u f.1 in
-        let now = shows.time in
+        let now = shows.shown.time in
         let time = small.time in
         let same : st.time + surplus net u ≡ t.time + (prizes_of net t c - inner_moats t.family.clusters c) = omega arith in
         record { formed = l; within = omega arith; fits = omega arith; due = f.2 ∙ ap Some same }

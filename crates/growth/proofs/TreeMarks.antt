@@ -24,7 +24,7 @@ use Rattle.pruning.specs.Written.{edges_among}
 use Rattle.pruning.proofs.Marking.{get_or_zeros}
 use Rattle.pruning.proofs.Written.{marked_front}
 use Rattle.growth.specs.NodeTables.{grows_at}
-use Rattle.growth.specs.Shown.{Shows}
+use Rattle.growth.specs.Shown.{ShowsAll}
 use Rattle.growth.specs.declared.tables.Tables.{Tables}
 use Rattle.growth.proofs.Growing.{grows_shown}
 
@@ -65,15 +65,15 @@ module _ (net : Net) (v : valid net ≡ true) (k : ℕ) where
   pub grown_edge_below : (s : ℕ) → grown_edge net (grow net k).slots s ≡ true → s < edge_count net
   grown_edge_below s e = chosen_below s (and_parts (chosen (grow net k).slots s) _ e).0
 
-  module _ (t : Tables) (shows : Shows net t (grow net k)) where
+  module _ (t : Tables) (shows : ShowsAll net t (grow net k)) where
     -- a node's maximal cluster grows where the node is in the grown tree
     pub node_grown : (w : ℕ) → w < node_count net → grows_at t.family.clusters (get_or t.nodes.cluster_of w 0) ≡ grown_node (grow net k).slots w
     node_grown w l =
         let formed = formed_by_number net v k in
-        ap (grows_at t.family.clusters) (shows.memberships w l) ∙ grows_shown net t (grow net k) formed shows (maximal_of (grow net k).slots w) ∙ sym (formed.in_grown w l)
+        ap (grows_at t.family.clusters) (shows.shown.memberships w l) ∙ grows_shown net t (grow net k) formed shows (maximal_of (grow net k).slots w) ∙ sym (formed.in_grown w l)
 
     pub chosen_marked : marked t.chosen.marks ≡ chosen (grow net k).slots
-    chosen_marked = fun_ext (λ s. ap (λ x. eqb x 1) (shows.edges s) ∙ mark (chosen (grow net k).slots s))
+    chosen_marked = fun_ext (λ s. ap (λ x. eqb x 1) (shows.all_edges s) ∙ mark (chosen (grow net k).slots s))
 
     pub edge_grown : (N : ℕ → Bool) → N ≡ grown_node (grow net k).slots → (s : ℕ) → edges_among net (marked t.chosen.marks) N s ≡ grown_edge net (grow net k).slots s
     edge_grown N is s = λ i. edges_among net (chosen_marked i) (is i) s

@@ -12,7 +12,7 @@ use Rattle.growth.specs.declared.cluster.Cluster.{Cluster}
 use Rattle.growth.specs.declared.tables.Tables.{Tables}
 use Rattle.network.specs.Nets.{Net}
 use Rattle.theory.specs.Sums.{one}
-use Rattle.theory.specs.Nets.{node_count}
+use Rattle.theory.specs.Nets.{node_count, edge_count}
 use Rattle.theory.specs.Growth.{State, grow, total}
 use Rattle.theory.specs.Prune.{chosen}
 
@@ -29,14 +29,19 @@ record_shown ts c = record { phase = phase_shown (phase_of ts c); moat = moat_of
 pub record Shows (net : Net) (t : Tables) (st : State) : Type 0 where
   pub count : t.family.formed ≡ length st.slots
   pub records : (c : ℕ) → c < length st.slots → slice_index_or t.family.clusters c vacant ≡ record_shown st.slots c
-  pub vacants : (c : ℕ) → length st.slots ≤ c → slice_index_or t.family.clusters c vacant ≡ vacant
   pub memberships : (v : ℕ) → v < node_count net → slice_index t.nodes.cluster_of v ≡ maximal_of st.slots v
   pub deep : (v : ℕ) → v < node_count net → slice_index t.nodes.depths v ≡ depth st.slots v
-  pub edges : (s : ℕ) → slice_index t.chosen.marks s ≡ one (chosen st.slots s)
+  pub edges : (s : ℕ) → s < edge_count net → slice_index t.chosen.marks s ≡ one (chosen st.slots s)
   pub time : t.time ≡ st.time
   pub steps : t.steps ≡ st.steps
   pub moats : t.total ≡ total st
 
+-- they show it, and what stands behind the clusters and the edges is vacant and not chosen
+pub record ShowsAll (net : Net) (t : Tables) (st : State) : Type 0 where
+  pub shown : Shows net t st
+  pub vacants : (c : ℕ) → length st.slots ≤ c → slice_index_or t.family.clusters c vacant ≡ vacant
+  pub all_edges : (s : ℕ) → slice_index t.chosen.marks s ≡ one (chosen st.slots s)
+
 -- they show the state that as many steps give as they count
 abbrev pub Shown : Net → Tables → Type 0
-Shown net t = Shows net t (grow net t.steps)
+Shown net t = ShowsAll net t (grow net t.steps)

@@ -42,20 +42,22 @@ impl Cluster {
         }
     }
 
+    // The union of two clusters: active, with moat 0.
+    pub(crate) fn join(first: usize, second: usize) -> Cluster
+        ensures { result ≡ joined_record first second }
+    {
+        Cluster {
+            phase: Phase::Active,
+            moat: 0,
+            parts: Some((first, second)),
+            maximal: true,
+        }
+    }
+
     pub(crate) fn close(&mut self)
         ensures { self.new ≡ inactivated self.old }
     {
         self.phase = Phase::Inactive;
-    }
-
-    // It is the union of two clusters from now on: active, with moat 0.
-    pub(crate) fn join(&mut self, first: usize, second: usize)
-        ensures { self.new ≡ joined_record first second }
-    {
-        self.phase = Phase::Active;
-        self.moat = 0;
-        self.parts = Some((first, second));
-        self.maximal = true;
     }
 
     // It is inside another from now on.

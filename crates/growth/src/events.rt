@@ -6,7 +6,7 @@ ghost use Rattle.theory.specs.Growth.{ended, step, grow};
 ghost use Rattle.growth.specs.Events.{growing, Passed};
 ghost use Rattle.growth.specs.Records.{vacant};
 ghost use Rattle.growth.specs.Refreshed.{dues_shown};
-ghost use Rattle.growth.specs.Shown.{Shows, Shown};
+ghost use Rattle.growth.specs.Shown.{ShowsAll, Shown};
 
 use crate::Tables;
 use crate::reads::edge_at;
@@ -36,7 +36,7 @@ impl Tables {
         requires shown { Shown (net_of network.now) self.old }
         requires going { ended (grow (net_of network.now) self.old.steps) ≡ false }
         requires first { earliest (dues_shown (net_of network.now) self.old) ≡ Some (time, number) }
-        ensures { Shows (net_of network.now) self.new (step (net_of network.now) (grow (net_of network.now) self.old.steps)) }
+        ensures { ShowsAll (net_of network.now) self.new (step (net_of network.now) (grow (net_of network.now) self.old.steps)) }
     {
         self.pass(network.prizes().len(), time);
         if number < 511 {

@@ -83,7 +83,7 @@ impl Family {
         let number = self.formed;
         self.clusters[first].enclose();
         self.clusters[second].enclose();
-        self.clusters[number].join(first, second);
+        self.clusters[number] = Cluster::join(first, second);
         self.formed = number + 1;
         number
     }

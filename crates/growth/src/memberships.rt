@@ -30,11 +30,25 @@ fn regrouped(first: usize, second: usize, new: usize, c: usize) -> usize
     if c == first || c == second { new } else { c }
 }
 
-fn regroup_each(cluster_of: &mut [usize], first: usize, second: usize, new: usize)
+// The nodes of two clusters are in a new one now.
+pub(crate) fn regroup(cluster_of: &mut [usize], first: usize, second: usize, new: usize)
     ensures { cluster_of.new ≡ map (regrouped first second new) cluster_of.old }
 {
     for i in 0..cluster_of.len() {
         cluster_of[i] = regrouped(first, second, new, cluster_of[i]);
+    }
+}
+
+// The depth of each node of a growing cluster grows.
+pub(crate) fn deepen(depths: &mut [u64], cluster_of: &[usize], clusters: &[Cluster], by: u64)
+    requires long { length depths.old ≤ length cluster_of.now }
+    requires fits { (v : ℕ) → slice_index depths.old v + by < 2 ^ 64 }
+    ensures { (v : ℕ) → v < length depths.old → slice_index depths.new v ≡ deeper clusters.now by (slice_index_or cluster_of.now v 0) (slice_index depths.old v) }
+{
+    for v in 0..depths.len() {
+        if grows(clusters, cluster_of[v]) {
+            depths[v] += by;
+        }
     }
 }
 
@@ -57,7 +71,7 @@ impl Nodes {
         ensures clusters { self.new.cluster_of ≡ map (regrouped first second new) self.old.cluster_of }
         ensures depths { self.new.depths ≡ self.old.depths }
     {
-        regroup_each(&mut self.cluster_of, first, second, new);
+        regroup(&mut self.cluster_of, first, second, new);
     }
 
     // The depth of each of the first `n` nodes that is in a growing cluster grows.
@@ -67,10 +81,8 @@ impl Nodes {
         ensures clusters { self.new.cluster_of ≡ self.old.cluster_of }
         ensures depths { (v : ℕ) → v < n → slice_index self.new.depths v ≡ deeper clusters.now by (slice_index_or self.old.cluster_of v 0) (slice_index self.old.depths v) }
     {
-        for v in 0..n {
-            if grows(clusters, self.cluster_of[v]) {
-                self.depths[v] += by;
-            }
-        }
+        // A copy: one field of a lent struct is not lent beside another.
+        let cluster_of = self.cluster_of;
+        deepen(&mut self.depths[0..n], &cluster_of, clusters, by);
     }
 }

@@ -2,7 +2,7 @@
 ghost use Rattle.std.specs.Prelude.{◌≡◌};
 ghost use Rattle.network.specs.Networks.{net_of};
 ghost use Rattle.theory.specs.Growth.{start};
-ghost use Rattle.growth.specs.Shown.{Shows};
+ghost use Rattle.growth.specs.Shown.{ShowsAll};
 
 use crate::marks::EdgeMarks;
 use crate::nodes::Nodes;
@@ -12,7 +12,7 @@ use network::Network;
 impl Tables {
     // Each node alone, no moat, no edge chosen.
     pub(crate) fn open(network: &Network) -> Tables
-        ensures { Shows (net_of network.now) result (start (net_of network.now)) }
+        ensures { ShowsAll (net_of network.now) result (start (net_of network.now)) }
     {
         Tables {
             family: Family::open(network.prizes().len()),

@@ -11,5 +11,5 @@ returns g c =
     let net = network_of s in
     let st = state_of s in
     c.with_marks.ensures
-    ∙ (λ i. with_marks (c.prune_answer.ensures.answer i) (c.prune_answer.ensures.nodes i) (c.prune_answer.ensures.edges i))
+    ∙ (λ i. with_marks (c.prune-answer.ensures.answer i) (c.prune-answer.ensures.nodes i) (c.prune-answer.ensures.edges i))
     ∙ kept_found net c.requires.sound.entered st c.requires.over (plan net st)

@@ -10,4 +10,4 @@ returns-then-s-ge1024 g c =
     let s = c.args.self.now in
     let long = s.tables.chosen.whole in
     let beyond = c.if-s-ge1024.true in
-    sym (one_none (chosen (state_of s).slots c.args.s) (sym (c.requires.shown.edges c.args.s) ∙ get_or_past s.tables.chosen.marks c.args.s 0 (omega arith)))
+    sym (one_none (chosen (state_of s).slots c.args.s) (sym (c.requires.shown.all_edges c.args.s) ∙ get_or_past s.tables.chosen.marks c.args.s 0 (omega arith)))

@@ -7,9 +7,9 @@ pub bound-requires : goal.bound-requires
 bound-requires g c =
     let s = c.args.self.now in
     let ahead = (numbers_stay_small (network_of s) c.requires.entered (steps_of s)).ahead in
-    omega (arith, c.requires.shown.time, c.requires.shown.moats)
+    omega (arith, c.requires.shown.shown.time, c.requires.shown.shown.moats)
 
 pub returns : goal.returns
 returns g c =
     let s = c.args.self.now in
-    record { answer = c.bound.ensures ∙ (λ i. c.requires.shown.moats i - c.requires.shown.time i); law = lower_bound_holds (network_of s) c.requires.entered (steps_of s) }
+    record { answer = c.bound.ensures ∙ (λ i. c.requires.shown.shown.moats i - c.requires.shown.shown.time i); law = lower_bound_holds (network_of s) c.requires.entered (steps_of s) }

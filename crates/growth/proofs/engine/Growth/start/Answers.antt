@@ -2,18 +2,18 @@ use Rattle.std.proofs.Common.{◌≡◌, sym, refl, ap, subst}
 use Rattle.network.specs.Networks.{net_of}
 use Rattle.theory.specs.Growth.{grow, start}
 use Rattle.theory.proofs.Laws.{laws_hold}
-use Rattle.growth.specs.Shown.{Shows}
+use Rattle.growth.specs.Shown.{ShowsAll}
 use Rattle.growth.proofs.engine.Growth.start.Goals as goal
 
 pub returns : goal.returns
 returns g c =
     let net = net_of c.args.network in
     let t = c.open-tables.result in
-    let first : grow net t.steps ≡ start net = ap (grow net) c.open-tables.ensures.steps in
+    let first : grow net t.steps ≡ start net = ap (grow net) c.open-tables.ensures.shown.steps in
     record {
       network = refl;
       state = first;
-      steps = c.open-tables.ensures.steps;
-      sound = record { entered = c.args.network.valid; shown = subst (Shows net t) (sym first) c.open-tables.ensures; due = c.fill.ensures };
+      steps = c.open-tables.ensures.shown.steps;
+      sound = record { entered = c.args.network.valid; shown = subst (ShowsAll net t) (sym first) c.open-tables.ensures; due = c.fill.ensures };
       laws = laws_hold net c.args.network.valid t.steps;
     }

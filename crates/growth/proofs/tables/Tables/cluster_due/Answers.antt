@@ -6,7 +6,7 @@ use Rattle.theory.specs.Growth.{grow}
 use Rattle.theory.proofs.Laws.{formed_by_number, numbers_stay_small}
 use Rattle.theory.proofs.Valid.{fine}
 use Rattle.growth.specs.NodeTables.{grows_at}
-use Rattle.growth.specs.Shown.{Shows}
+use Rattle.growth.specs.Shown.{ShowsAll}
 use Rattle.growth.specs.Sums.{prizes_in}
 use Rattle.growth.specs.declared.tables.Tables.{Tables}
 use Rattle.growth.proofs.Growing.{grows_shown}
@@ -15,7 +15,7 @@ use Rattle.growth.proofs.tables.Tables.cluster_due.Goals as goal
 use Rattle.growth.proofs.tables.Tables.cluster_due.Goals.{After-inner_moats-moats}
 
 -- a cluster that grows, in the tables of a network
-grown : (n : Network) (t : Tables) (c : ℕ) → Shows (net_of n) t (grow (net_of n) t.steps) → grows_at t.family.clusters c ≡ true → Running (net_of n) t (grow (net_of n) t.steps) c
+grown : (n : Network) (t : Tables) (c : ℕ) → ShowsAll (net_of n) t (grow (net_of n) t.steps) → grows_at t.family.clusters c ≡ true → Running (net_of n) t (grow (net_of n) t.steps) c
 grown n t c shows h =
     let net = net_of n in
     let st = grow net t.steps in
@@ -49,7 +49,7 @@ inner_moats-moats-requires c =
     let small = numbers_stay_small net n.valid t.steps in
     let g = grown n t c.args.c c.requires (sym c.grows.ensures ∙ c.if-not-grows.false) in
     let l = g.formed in
-    let count = c.requires.count in
+    let count = c.requires.shown.count in
     record { there = omega arith; falls = falls_shown net t st formed c.requires; fits = inner_fits net t st formed c.requires small }
 
 -- what the two calls answer, in the network's words

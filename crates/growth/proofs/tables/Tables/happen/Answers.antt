@@ -76,7 +76,7 @@ merge-new-requires c =
     let la = first_below net n.valid t.steps t c.requires.shown c.args.time c.args.number c.requires.going c.requires.first high in
     let lb = second_below net n.valid t.steps t c.requires.shown c.args.time c.args.number c.requires.going c.requires.first high in
     let free = room net n.valid t.steps t c.requires.shown c.args.time c.args.number c.requires.going c.requires.first high in
-    let count = c.requires.shown.count in
+    let count = c.requires.shown.shown.count in
     (omega arith, omega arith, omega (arith, c.pass.ensures.formed))
 
 pub bounds-self-number : goal.bounds-self-number
@@ -98,7 +98,7 @@ returns c =
     let second = get_or m.nodes.cluster_of c.edge_at-edge.result.second 0 in
     let a = after_passing _ c.args.time t m c.pass.ensures c.edge_at-edge.result.first _ _ c.edge_at-edge.ensures.first (first_is net n.valid t.steps t c.requires.shown c.args.time c.args.number c.requires.going c.requires.first high) in
     let b = after_passing _ c.args.time t m c.pass.ensures c.edge_at-edge.result.second _ _ c.edge_at-edge.ensures.second (second_is net n.valid t.steps t c.requires.shown c.args.time c.args.number c.requires.going c.requires.first high) in
-    let count : m.family.formed ≡ length (grow net t.steps).slots = c.pass.ensures.formed ∙ c.requires.shown.count in
+    let count : m.family.formed ≡ length (grow net t.steps).slots = c.pass.ensures.formed ∙ c.requires.shown.shown.count in
     shows_merged net n.valid t.steps c.args.time c.args.number c.requires.going c.requires.first t m _ c.requires.shown
     (passes _ (node_count net) c.args.time t m (ap length c.prizes.ensures) c.pass.ensures)
     high

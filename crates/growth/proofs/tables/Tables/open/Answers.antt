@@ -34,15 +34,18 @@ returns c =
     let few : node_count net ≤ 256 = leb-true (node_count net) 256 (valid_parts net c.args.network.now.valid).few_nodes in
     let count = s.count in
     record {
-      count = c.open.ensures.formed ∙ same ∙ sym count;
-      records = λ k l. let m : k < node_count net = omega arith in
-          lone_at (length c.prizes.result.now) k c.open.result.clusters c.open.ensures.clusters (omega arith)
-          ∙ λ i. record { phase = phase_shown (sym (s.phases k m) i); moat = sym (s.moats k m) i; parts = sym (s.parts k m) i; maximal = sym (s.maximals k m) i };
+      shown = record {
+        count = c.open.ensures.formed ∙ same ∙ sym count;
+        records = λ k l. let m : k < node_count net = omega arith in
+            lone_at (length c.prizes.result.now) k c.open.result.clusters c.open.ensures.clusters (omega arith)
+            ∙ λ i. record { phase = phase_shown (sym (s.phases k m) i); moat = sym (s.moats k m) i; parts = sym (s.parts k m) i; maximal = sym (s.maximals k m) i };
+        memberships = λ v l. c.open-2.ensures.clusters v (omega arith) ∙ sym (s.memberships v l);
+        deep = λ v l. ap (λ d. get_or d v 0) c.open-2.ensures.depths ∙ get_or-replicate 256 v 0 0 (omega arith) ∙ sym (s.depths v);
+        edges = λ e _. filled_all 1024 e 0 ∙ ap one (sym (s.none_chosen e));
+        time = refl;
+        steps = refl;
+        moats = sym s.no_moats;
+      };
       vacants = λ k l. vacant_at (length c.prizes.result.now) k c.open.result.clusters c.open.ensures.clusters (omega arith);
-      memberships = λ v l. c.open-2.ensures.clusters v (omega arith) ∙ sym (s.memberships v l);
-      deep = λ v l. ap (λ d. get_or d v 0) c.open-2.ensures.depths ∙ get_or-replicate 256 v 0 0 (omega arith) ∙ sym (s.depths v);
-      edges = λ e. filled_all 1024 e 0 ∙ ap one (sym (s.none_chosen e));
-      time = refl;
-      steps = refl;
-      moats = sym s.no_moats;
+      all_edges = λ e. filled_all 1024 e 0 ∙ ap one (sym (s.none_chosen e));
     }

@@ -3,7 +3,7 @@ use Rattle.std.proofs.lemmas.List.Edits.{map_over_more}
 use Rattle.std.proofs.lemmas.List.{get_or_default}
 use Rattle.growth.specs.NodeTables.{regrouped}
 use Rattle.growth.proofs.InPlace.{all_reached}
-use Rattle.growth.proofs.memberships.regroup_each.Goals as goal
+use Rattle.growth.proofs.memberships.regroup.Goals as goal
 
 pub loop-i-preserved : goal.loop-i-preserved
 loop-i-preserved c =
