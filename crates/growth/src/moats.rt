@@ -21,14 +21,6 @@ pub(crate) fn inner_moats(clusters: &[Cluster], c: usize) -> u64
     }
 }
 
-// Twice a node's prize if the node is in the cluster, else 0.
-fn doubled_if(prize: u64, cluster_of_node: usize, c: usize) -> u64
-    requires { prize ≤ 1000000000 }
-    ensures { result ≡ (if nat_eq cluster_of_node c then 2 * prize else 0) }
-{
-    if cluster_of_node == c { 2 * prize } else { 0 }
-}
-
 // The doubled prizes of a maximal cluster's nodes.
 pub(crate) fn doubled_prizes(prizes: &[u64], cluster_of: &[usize], c: usize) -> u64
     requires few { length prizes.now ≤ 256 }
@@ -38,7 +30,9 @@ pub(crate) fn doubled_prizes(prizes: &[u64], cluster_of: &[usize], c: usize) -> 
 {
     let mut sum: u64 = 0;
     for v in 0..prizes.len() {
-        sum += doubled_if(prizes[v], cluster_of[v], c);
+        if cluster_of[v] == c {
+            sum += 2 * prizes[v];
+        }
     }
     sum
 }

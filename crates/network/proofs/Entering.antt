@@ -1,11 +1,11 @@
 -- An entry that is not refused keeps a network valid. Assumes nothing.
-use Rattle.std.proofs.Common.{◌≡◌, ℕ, ◌+◌, ◌<◌, ◌≤◌, Bool, true, false, cond, ◌&&◌, ltb, leb, List, [], ◌∷◌, ◌++◌, length, Some, None, vec_items, vec_len, sym, refl, ap, ◌∙◌, arith}
+use Rattle.std.proofs.Common.{◌≡◌, ℕ, ◌+◌, ◌<◌, Bool, true, cond, leb, List, [], ◌∷◌, ◌++◌, length, Some, None, vec_items, vec_len, sym, refl, ap, ◌∙◌, arith}
 use Rattle.std.proofs.lemmas.List.{length_push, length-map, map_push}
 use Rattle.std.proofs.lemmas.Bool.{and_parts, and_from}
 use Rattle.std.proofs.lemmas.Bool.Decides.{nat_tests}
 use Rattle.refusal.specs.declared.Refusal.TheVariants.{BadCode}
 use Rattle.network.specs.Codes.{all, is_code, code_from}
-use Rattle.network.specs.Nets.{Net, Link, link, valid, valid_link, valid_prize, most_amount}
+use Rattle.network.specs.Nets.{Net, Link, link, valid, valid_link, valid_prize}
 use Rattle.network.specs.Edges.{link_of, net_from, text_of}
 use Rattle.network.specs.Networks.{net_of}
 use Rattle.network.specs.declared.edge.Edge.{Edge}

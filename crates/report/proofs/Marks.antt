@@ -1,5 +1,5 @@
 -- A plan's marks at the front of lists of 0, once growth has ended.
-use Rattle.std.proofs.Common.{◌≡◌, ℕ, ◌-◌, Bool, true, false, cond, eqb, ltb, List, ◌++◌, length, replicate, Some, None, Ok, Err, Result, refl, ◌∙◌, arith}
+use Rattle.std.proofs.Common.{◌≡◌, ℕ, Bool, true, false, cond, eqb, ltb, List, ◌++◌, length, replicate, Some, None, Ok, Err, Result, refl, ◌∙◌, arith}
 use Rattle.std.proofs.lemmas.List.{length-replicate, drop-replicate}
 use Rattle.std.proofs.lemmas.Bool.{le-ltb, or_from}
 use Rattle.refusal.specs.declared.Refusal.{Refusal}

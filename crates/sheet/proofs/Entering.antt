@@ -7,7 +7,7 @@ use Rattle.refusal.specs.declared.Refusal.TheVariants.{LineForm}
 use Rattle.network.specs.Nets.{Net}
 use Rattle.sheet.specs.Lines.{Line, Entry, field_before, byte_before, first_line, entry_from}
 use Rattle.sheet.specs.Sheets.{enter_record, enter_fields, then_enter, enter_line, enter_lines}
-use Rattle.sheet.specs.Readers.{is_empty, Parsed, parsed, then_line, parsed_behind}
+use Rattle.sheet.specs.Readers.{is_empty, parsed, then_line, parsed_behind}
 
 -- the bytes behind a line are fewer
 abbrev pub Shorter : ℕ → Option Line → Type 0

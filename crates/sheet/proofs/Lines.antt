@@ -1,12 +1,12 @@
 -- The fields of a line, one more at a time. Assumes nothing.
-use Rattle.std.proofs.Common.{◌≡◌, ℕ, Bool, true, false, cond, ◌&&◌, ◌||◌, eqb, ◌⊎◌, List, [], ◌∷◌, ◌++◌, length, get_or, Some, None, Option, sym, refl, ap, ◌∙◌, inl, inr, ⊎_elim, append_assoc, arith}
+use Rattle.std.proofs.Common.{◌≡◌, ℕ, Bool, true, false, cond, ◌||◌, eqb, ◌⊎◌, List, [], ◌∷◌, ◌++◌, length, get_or, Some, None, Option, sym, refl, ap, ◌∙◌, inl, inr, ⊎_elim, append_assoc, arith}
 use Rattle.std.proofs.lemmas.Bool.Decides.{nat_tests}
 use Rattle.std.proofs.lemmas.Bool.{cases_eq, and_cases, true≢false}
 use Rattle.std.specs.Option.{option_map}
 use Rattle.network.specs.Nets.{link}
 use Rattle.sheet.specs.Numbers.{is_number, value_of}
 use Rattle.sheet.specs.Lines.{Line, field_before, byte_before, first_line, entry_from, node, edge}
-use Rattle.sheet.specs.Readers.{is_stop, field_of, behind_field, next_is, closed_field, any_letter, Parsed, parsed, then_line, parsed_behind}
+use Rattle.sheet.specs.Readers.{is_stop, field_of, behind_field, next_is, closed_field, any_letter, parsed, then_line, parsed_behind}
 
 -- a field, and the bytes from its end on
 abbrev joined : List ℕ → List ℕ → Option Line

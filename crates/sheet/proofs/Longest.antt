@@ -1,15 +1,15 @@
 -- How long a sheet can be. Assumes nothing.
-use Rattle.std.proofs.Common.{◌≡◌, ℕ, ◌+◌, ◌*◌, ◌^◌, ◌<◌, ◌≤◌, Bool, true, ◌&&◌, ltb, leb, List, [], ◌∷◌, ◌++◌, map, length, decimal, sym, ap, ◌∙◌, arith, length-append}
+use Rattle.std.proofs.Common.{◌≡◌, ℕ, ◌*◌, ◌^◌, ◌<◌, ◌≤◌, Bool, true, List, [], ◌∷◌, length, decimal, arith, length-append}
 use Rattle.std.specs.List.{flat_map}
 use Rattle.std.proofs.lemmas.Fmt.{length-decimal-le}
 use Rattle.std.proofs.lemmas.List.{length_push}
 use Rattle.std.proofs.lemmas.Bool.{and_parts, leb-true}
 use Rattle.std.proofs.lemmas.Bool.Decides.{nat_tests}
 use Rattle.network.proofs.Entering.{valid_parts}
-use Rattle.network.specs.Codes.{all, is_code}
+use Rattle.network.specs.Codes.{all}
 use Rattle.network.specs.Nets.{Net, Link, valid, valid_prize, valid_link}
 use Rattle.sheet.specs.Writing.{node_line, edge_line, sheet_of}
-use Rattle.sheet.proofs.Pieces.{tabbed, edge_long}
+use Rattle.sheet.proofs.Pieces.{edge_long}
 
 node_le : (p : ℕ) → valid_prize p ≡ true → length (node_line p) ≤ 13
 node_le p h = let l = leb-true p 1000000000 h in let n = length-decimal-le 10 p (omega arith) (omega arith) (omega arith) in let m = length_push (decimal p) 10 in omega arith

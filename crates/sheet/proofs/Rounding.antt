@@ -1,16 +1,16 @@
 -- Writing and reading back. Assumes nothing.
-use Rattle.std.proofs.Common.{◌≡◌, ℕ, zero, suc, ◌+◌, ◌^◌, ◌<◌, ◌≤◌, Bool, true, false, ◌&&◌, List, [], ◌∷◌, ◌++◌, map, length, Some, None, Ok, Err, Option, Result, sym, refl, ap, ◌∙◌, subst, append_assoc, append-nil, arith, length-append}
+use Rattle.std.proofs.Common.{◌≡◌, ℕ, zero, suc, ◌+◌, ◌^◌, ◌<◌, ◌≤◌, true, List, [], ◌∷◌, ◌++◌, map, length, Some, None, Ok, Err, Option, Result, sym, refl, ap, ◌∙◌, subst, append_assoc, append-nil, arith, length-append}
 use Rattle.std.specs.Option.{option_map, option_to_list}
 use Rattle.std.specs.List.{flat_map, AllByRecursion as All}
-use Rattle.std.proofs.lemmas.Bool.{and_parts, and_from, leb-true, true≢false}
+use Rattle.std.proofs.lemmas.Bool.{and_parts, leb-true, true≢false}
 use Rattle.std.proofs.lemmas.Bool.Decides.{nat_tests}
 use Rattle.refusal.specs.declared.Refusal.{Refusal}
-use Rattle.network.specs.Codes.{all, is_code_byte}
+use Rattle.network.specs.Codes.{all}
 use Rattle.network.specs.Nets.{Net, Link, empty_net, valid, valid_prize, valid_link}
 use Rattle.network.specs.Entries.{node_refusal, edge_refusal, with_node, with_edge}
 use Rattle.network.proofs.Entering.{valid_parts, node_keeps_valid, edge_keeps_valid}
 use Rattle.sheet.specs.Lines.{Line, Entry, node, edge, first_line, entry_from}
-use Rattle.sheet.specs.Sheets.{entry_refusal, with_entry, unless_line_refused, enter_record, enter_fields, then_enter, enter_line, enter_lines, read_sheet}
+use Rattle.sheet.specs.Sheets.{entry_refusal, with_entry, unless_line_refused, enter_fields, then_enter, enter_line, enter_lines, read_sheet}
 use Rattle.sheet.specs.Readers.{parsed, then_line, parsed_behind}
 use Rattle.sheet.specs.Writing.{node_line, edge_line, sheet_of}
 use Rattle.sheet.specs.Rounds.{line_entries, entries_within, entries_of, is_edge, nodes_first, ReadAfterWrite, WriteAfterRead}

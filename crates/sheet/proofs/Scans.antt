@@ -1,7 +1,7 @@
 -- The field at the front of some bytes, one byte more at a time. Assumes nothing.
-use Rattle.std.proofs.Common.{◌≡◌, ℕ, ◌+◌, ◌<◌, ◌≤◌, Bool, true, false, cond, List, [], ◌∷◌, ◌++◌, length, get_or, drop, sym, refl, ap, ◌∙◌, append-nil, arith}
+use Rattle.std.proofs.Common.{◌≡◌, ℕ, ◌+◌, ◌<◌, true, false, cond, List, [], ◌∷◌, ◌++◌, length, get_or, drop, sym, ap, ◌∙◌, append-nil}
 use Rattle.std.specs.List.{between}
-use Rattle.std.proofs.lemmas.List.{drop_more, drop_all}
+use Rattle.std.proofs.lemmas.List.{drop_more}
 use Rattle.sheet.specs.Readers.{is_stop, field_of, behind_field}
 
 pub field_stops : (s : List ℕ) (i : ℕ) → i < length s → is_stop (get_or s i 0) ≡ true → (field_of (drop i s) ≡ []) × (behind_field (drop i s) ≡ drop i s)

@@ -1,11 +1,11 @@
 -- A line that is read is as it would be written. Assumes nothing.
-use Rattle.std.proofs.Common.{◌≡◌, ℕ, ◌^◌, ◌<◌, ◌≤◌, Bool, true, false, cond, not, ◌&&◌, ◌||◌, eqb, ltb, leb, List, [], ◌∷◌, ◌++◌, length, get_or, Some, None, decimal, Option, sym, refl, ap, ◌∙◌, subst, append_assoc, arith}
+use Rattle.std.proofs.Common.{◌≡◌, ℕ, ◌≤◌, Bool, true, false, cond, ◌&&◌, eqb, List, [], ◌∷◌, ◌++◌, length, get_or, Some, None, decimal, Option, sym, refl, ap, ◌∙◌, subst, append_assoc, arith}
 use Rattle.std.specs.Option.{option_map}
 use Rattle.std.proofs.lemmas.Fmt.{decimal-digits_value}
 use Rattle.std.proofs.lemmas.Bool.{eqb-true, and_parts}
 use Rattle.std.proofs.lemmas.Bool.Decides.{nat_tests}
 use Rattle.network.specs.Codes.{all, is_digit}
-use Rattle.network.specs.Nets.{Link, link}
+use Rattle.network.specs.Nets.{link}
 use Rattle.sheet.specs.Numbers.{is_number, value_of}
 use Rattle.sheet.specs.Lines.{Line, Entry, node, edge, field_before, byte_before, byte_into, first_line, entry_from, is_letter}
 use Rattle.sheet.specs.Readers.{parsed, then_line, parsed_behind}

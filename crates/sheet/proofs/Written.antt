@@ -1,17 +1,16 @@
 -- A line that is written is read as what it says, and a line that is read is as it would be written. Assumes nothing.
-use Rattle.std.proofs.Common.{◌≡◌, ℕ, zero, suc, ◌+◌, ◌-◌, ◌^◌, ◌<◌, ◌≤◌, Bool, true, false, cond, not, ◌&&◌, ◌||◌, eqb, ltb, leb, List, [], ◌∷◌, ◌++◌, length, get_or, Some, None, decimal, Option, sym, refl, ap, ◌∙◌, ⊎_elim, append_assoc, arith}
-use Rattle.std.specs.Option.{option_map}
-use Rattle.std.proofs.lemmas.Fmt.{digits_decimal, digits_value-decimal, decimal-digits_value, length-decimal-le, decimal_nonempty, first_decimal, decimal_digit}
+use Rattle.std.proofs.Common.{◌≡◌, ℕ, ◌^◌, ◌<◌, Bool, true, false, cond, not, List, [], ◌∷◌, ◌++◌, length, Some, decimal, sym, refl, ap, ◌∙◌, ⊎_elim, append_assoc, arith}
+use Rattle.std.proofs.lemmas.Fmt.{digits_decimal, digits_value-decimal, length-decimal-le, decimal_nonempty, first_decimal, decimal_digit}
 use Rattle.std.proofs.lemmas.Bool.{and_parts, and_from, cases_eq, le-leb}
 use Rattle.std.proofs.lemmas.Bool.Decides.{nat_tests}
 use Rattle.network.specs.Codes.{all, is_digit, is_code_byte}
-use Rattle.network.specs.Nets.{Link, link}
-use Rattle.sheet.specs.Numbers.{is_number, value_of, value_from, leads_with_zero}
-use Rattle.sheet.specs.Lines.{Line, Entry, node, edge, field_before, byte_before, first_line, entry_from}
-use Rattle.sheet.specs.Readers.{is_stop, field_of, behind_field, Parsed, parsed, then_line, parsed_behind}
+use Rattle.network.specs.Nets.{Link}
+use Rattle.sheet.specs.Numbers.{is_number, value_of, leads_with_zero}
+use Rattle.sheet.specs.Lines.{node, edge}
+use Rattle.sheet.specs.Readers.{is_stop, field_of, behind_field, parsed, parsed_behind}
 use Rattle.sheet.specs.Writing.{node_line, edge_line}
-use Rattle.sheet.proofs.Digits.{numerals, value_small}
-use Rattle.sheet.proofs.Lines.{N, S, tab_read}
+use Rattle.sheet.proofs.Digits.{numerals}
+use Rattle.sheet.proofs.Lines.{N, tab_read}
 use Rattle.sheet.proofs.Forms.{node_accepted, edge_accepted}
 
 -- a field of bytes that are no stops ends where it should

@@ -4,7 +4,7 @@ use Rattle.std.proofs.lemmas.Bool.{eq-eqb, eqb-true, ne_eqb, or_left, or_right, 
 use Rattle.std.proofs.lemmas.List.{length-set, get_or-set_same, get_or-set_other, get_or_past}
 use Rattle.network.specs.Nets.{Net}
 use Rattle.theory.specs.Nets.{node_count, first_end, second_end}
-use Rattle.theory.specs.Clusters.{Cluster, Slot, standing, moat, number, holds, under}
+use Rattle.theory.specs.Clusters.{Cluster, Slot, standing, moat, number, holds}
 use Rattle.theory.specs.Clusters.Phase.{active, inactive}
 use Rattle.theory.specs.Clusters.Cluster.{merged}
 use Rattle.theory.specs.Clusters.Slot.{maximal, inside}

@@ -1,5 +1,5 @@
 -- The laws of growth.
-use Rattle.std.specs.Prelude.{◌≡◌, ℕ, suc, ◌+◌, ◌-◌, ◌*◌, ◌%◌, ◌<◌, ◌≤◌, Bool, true, false, cond, ◌&&◌, ◌||◌, ◌≢◌, List, length, Some, None, Option, ◌==◌, nat_lt, slice_index_or}
+use Rattle.std.specs.Prelude.{◌≡◌, ℕ, suc, ◌+◌, ◌-◌, ◌*◌, ◌%◌, ◌<◌, ◌≤◌, Bool, true, false, cond, ◌&&◌, ◌||◌, ◌≢◌, List, length, Some, None, ◌==◌, nat_lt, slice_index_or}
 use Rattle.std.specs.List.{AllByRecursion as All}
 use Rattle.network.specs.Nets.{Net, valid}
 use Rattle.theory.specs.Nets.{node_count, edge_count, prize, cost, first_end, second_end, doubled_prize, doubled_cost}

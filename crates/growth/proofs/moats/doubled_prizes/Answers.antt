@@ -1,14 +1,18 @@
-use Rattle.std.proofs.Common.{◌*◌, cond, eqb, get_or, arith}
-use Rattle.theory.proofs.Bools.{cond_most}
-use Rattle.pruning.proofs.Totals.{sum_more}
+use Rattle.std.proofs.Common.{◌≡◌, ◌+◌, ◌*◌, cond, eqb, get_or, ap, arith, add-one}
+use Rattle.std.proofs.lemmas.Bool.Decides.{nat_tests}
+use Rattle.growth.specs.Sums.{prizes_in}
 use Rattle.growth.proofs.moats.doubled_prizes.Goals as goal
+use Rattle.growth.proofs.moats.doubled_prizes.Goals.{then-cluster_of-v, else-cluster_of-v}
 
 pub loop-v-preserved : goal.loop-v-preserved
 loop-v-preserved c =
     let ps = c.args.prizes.now in
     let of = c.args.cluster_of.now in
     let v = c.loop-v.v in
+    let inv = c.loop-v.invariant in
+    let more : prizes_in ps of c.args.c (v + 1) ≡ prizes_in ps of c.args.c v + cond (eqb (get_or of v 0) c.args.c) (2 * get_or ps v 0) 0 = ap (prizes_in ps of c.args.c) (add-one v) in
     let small = c.requires.small v in
-    let most = cond_most (eqb (get_or of v 0) c.args.c) (2 * get_or ps v 0) in
-    let inv = c.loop-v.invariant.1 in
-    (sum_more (λ v. cond (eqb (get_or of v 0) c.args.c) (2 * get_or ps v 0) 0) v c.loop-v.sum c.doubled_if-sum.result c.loop-v.invariant.0 c.doubled_if-sum.ensures, omega (arith, c.doubled_if-sum.ensures))
+    elim c.if-cluster_of-v.branch [
+      | then-cluster_of-v w ↦ let t = w.if-cluster_of-v.true in (grind (arith, nat_tests), grind (arith, nat_tests))
+      | else-cluster_of-v w ↦ let t = w.if-cluster_of-v.false in (grind (arith, nat_tests), grind (arith, nat_tests))
+    ]

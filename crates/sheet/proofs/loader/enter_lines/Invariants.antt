@@ -1,4 +1,4 @@
-use Rattle.std.proofs.Common.{◌≡◌, ◌+◌, ◌<◌, ◌≤◌, length}
+use Rattle.std.proofs.Common.{◌≡◌, ◌+◌, ◌≤◌, length}
 use Rattle.network.specs.Networks.{net_of}
 use Rattle.sheet.specs.Sheets.{enter_from, enter_lines}
 use Rattle.sheet.specs.Readers.{ahead}

@@ -1,4 +1,4 @@
-use Rattle.std.proofs.Common.{◌^◌, ◌<◌, ◌≤◌, arith}
+use Rattle.std.proofs.Common.{◌^◌, ◌<◌, arith}
 use Rattle.sheet.proofs.Lays.{length_digit, length_step, laid_one, laid_more}
 use Rattle.sheet.proofs.writer.+put_number.Goals as goal
 

@@ -1,4 +1,4 @@
-use Rattle.std.proofs.Common.{◌≡◌, [], ◌∷◌, length, set, decimal, ap, ◌∙◌, arith}
+use Rattle.std.proofs.Common.{set, decimal, ◌∙◌, arith}
 use Rattle.std.proofs.lemmas.List.{length_push}
 use Rattle.sheet.proofs.Lays.{laid_push}
 use Rattle.sheet.proofs.writer.put_field.Goals as goal

@@ -1,6 +1,6 @@
-use Rattle.std.proofs.Common.{◌≡◌, [], ◌∷◌, ◌++◌, length, decimal, ap, ◌∙◌, arith}
+use Rattle.std.proofs.Common.{[], ◌∷◌, ◌++◌, decimal, ◌∙◌, arith}
 use Rattle.sheet.specs.Laid.{laid}
-use Rattle.sheet.proofs.Lays.{laid_laid, length_laid}
+use Rattle.sheet.proofs.Lays.{laid_laid}
 use Rattle.sheet.proofs.writer.put_node.Goals as goal
 
 pub put_field-requires : goal.put_field-requires

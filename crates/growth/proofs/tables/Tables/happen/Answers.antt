@@ -1,4 +1,4 @@
-use Rattle.std.proofs.Common.{◌≡◌, ℕ, ◌+◌, ◌-◌, map, length, get_or, refl, ap, ◌∙◌, subst, arith}
+use Rattle.std.proofs.Common.{◌≡◌, ℕ, ◌+◌, map, length, get_or, refl, ap, ◌∙◌, subst, arith}
 use Rattle.network.specs.Networks.{net_of}
 use Rattle.theory.specs.Nets.{node_count}
 use Rattle.theory.specs.Growth.{grow}

@@ -1,4 +1,4 @@
-use Rattle.std.proofs.Common.{◌≡◌, length, Ok, vec_items, sym, ap, ◌∙◌, arith}
+use Rattle.std.proofs.Common.{length, Ok, sym, ap, ◌∙◌, arith}
 use Rattle.network.specs.Nets.{link, valid}
 use Rattle.network.specs.Edges.{text_of}
 use Rattle.network.specs.Entries.{answer_of, unless_refused, with_edge}

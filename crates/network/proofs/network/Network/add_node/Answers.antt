@@ -1,4 +1,4 @@
-use Rattle.std.proofs.Common.{◌≡◌, vec_items, sym, ap, ◌∙◌, arith}
+use Rattle.std.proofs.Common.{vec_items, sym, ap, ◌∙◌, arith}
 use Rattle.network.specs.Nets.{valid}
 use Rattle.network.specs.Edges.{net_from}
 use Rattle.network.specs.Networks.{net_of}
