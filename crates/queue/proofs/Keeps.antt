@@ -1,7 +1,7 @@
 -- The keys of a table's entries, as the heap queue keeps them. Assumes nothing.
 use Rattle.std.proofs.Common.{◌≡◌, ℕ, zero, suc, ◌+◌, ◌<◌, true, false, cond, List, [], ◌∷◌, ◌++◌, length, get_or, set, replicate, is_some, Some, None, Option, sym, refl, ap, ◌∙◌, subst, ⊎_elim, arith}
 use Rattle.std.specs.List.Sorted.{IsPermutation}
-use Rattle.std.specs.List.{ContainsAt as Has, AllByRecursion as All}
+use Rattle.std.specs.List.{ContainsAt, AllByRecursion}
 use Rattle.std.proofs.Permutation.{which}
 use Rattle.std.proofs.ByRecursion.{has_append_right}
 use Rattle.std.proofs.lemmas.List.{get_or-set_same, get_or-set_other, length-append, length-set}
@@ -28,16 +28,16 @@ same_itself : (k : TimedKey) → same_key k k ≡ true
 same_itself k = grind (arith, nat_tests)
 
 -- a key that is counted is there, and one that is there is counted
-counted_has : (k : TimedKey) (ks : List TimedKey) → 0 < how_often k ks → Has ks k
+counted_has : (k : TimedKey) (ks : List TimedKey) → 0 < how_often k ks → ContainsAt ks k
 counted_has k [] h = absurd (omega arith)
 counted_has k (x ∷ xs) h =
     let more = sum_by-cons (one k) x xs in
-    elim (same_key k x) as (λ b. same_key k x ≡ b → Has (x ∷ xs) k) [
+    elim (same_key k x) as (λ b. same_key k x ≡ b → ContainsAt (x ∷ xs) k) [
       | true ↦ λ e. (0, omega arith, λ d. sym (same_is k x e))
       | false ↦ λ e. has_append_right (x ∷ []) xs k (counted_has k xs (let z : one k x ≡ 0 = ap (λ b. cond b 1 0) e in omega arith))
     ] refl
 
-has_counted : (k : TimedKey) (ks : List TimedKey) → Has ks k → 0 < how_often k ks
+has_counted : (k : TimedKey) (ks : List TimedKey) → ContainsAt ks k → 0 < how_often k ks
 has_counted k ks h =
     let here = get_or-le-sum_by (one k) ks h.0 k h.1 in
     let is : one k (get_or ks h.0 k) ≡ 1 = ap (one k) (h.2 k) ∙ ap (λ b. cond b 1 0) (same_itself k) in
@@ -140,20 +140,20 @@ has_time_is (Some s) time h = let same : s ≡ time = grind (arith, nat_tests) i
 has_own_time : (time : ℕ) → has_time (Some time) time ≡ true
 has_own_time time = grind (arith, nat_tests)
 
-entry_has_key : (t : List (Option ℕ)) (ks : List TimedKey) → KeysOf t ks → (n time : ℕ) → get_or t n None ≡ Some time → Has ks (record { time = time; number = n })
+entry_has_key : (t : List (Option ℕ)) (ks : List TimedKey) → KeysOf t ks → (n time : ℕ) → get_or t n None ≡ Some time → ContainsAt ks (record { time = time; number = n })
 entry_has_key t ks h n time e =
     let k : TimedKey = record { time = time; number = n } in
     let here : entered k t ≡ 1 = ap (λ o. cond (has_time o time) 1 0) e ∙ ap (λ b. cond b 1 0) (has_own_time time) in
     let was = h.1 k in
     counted_has k ks (omega arith)
 
-pub entry_held : (t : List (Option ℕ)) (ks : List TimedKey) → KeysOf t ks → (n : ℕ) → All (Has ks) (key_of n (get_or t n None))
-entry_held t ks h n = elim (get_or t n None) as (λ o. get_or t n None ≡ o → All (Has ks) (key_of n o)) [
+pub entry_held : (t : List (Option ℕ)) (ks : List TimedKey) → KeysOf t ks → (n : ℕ) → AllByRecursion (ContainsAt ks) (key_of n (get_or t n None))
+entry_held t ks h n = elim (get_or t n None) as (λ o. get_or t n None ≡ o → AllByRecursion (ContainsAt ks) (key_of n o)) [
   | None ↦ λ _. tt
   | Some s ↦ λ e. (entry_has_key t ks h n s e, tt)
 ] refl
 
-key_is_entered : (t : List (Option ℕ)) (ks : List TimedKey) → KeysOf t ks → (k : TimedKey) → Has ks k → get_or t k.number None ≡ Some k.time
+key_is_entered : (t : List (Option ℕ)) (ks : List TimedKey) → KeysOf t ks → (k : TimedKey) → ContainsAt ks k → get_or t k.number None ≡ Some k.time
 key_is_entered t ks h k has = let count = has_counted k ks has in let was = h.1 k in has_time_is (get_or t k.number None) k.time (omega arith)
 
 -- the least key is that of the first entry

@@ -1,7 +1,7 @@
 // The heap queue, which keeps a key for each entry of its table in a heap.
 ghost use Rattle.std.specs.Prelude.{◌≡◌, ◌≤◌, ◌++◌, length};
 ghost use Rattle.std.specs.List.Sorted.{IsPermutation};
-ghost use Rattle.std.specs.List.{ContainsAt as Has, AllByRecursion as All};
+ghost use Rattle.std.specs.List.{ContainsAt, AllByRecursion};
 ghost use Rattle.heap.specs.Bags.{bag_of, room_of, Sound};
 ghost use Rattle.queue.specs.Tables.{no_entries};
 ghost use Rattle.queue.specs.Timed.{timed_leq, key_of, KeysOf, room_answer};
@@ -49,7 +49,7 @@ impl<'a> HeapQueue<'a> {
 fn take_key(heap: &mut Heap<'_, TimedKey>, number: usize, entry: Option<u64>)
     requires { Sound timed_leq heap.old }
     ensures room { room_of heap.new ≡ room_of heap.old }
-    ensures bag { All (Has (bag_of heap.old)) (key_of number entry) → IsPermutation (bag_of heap.old) (key_of number entry ++ bag_of heap.new) }
+    ensures bag { AllByRecursion (ContainsAt (bag_of heap.old)) (key_of number entry) → IsPermutation (bag_of heap.old) (key_of number entry ++ bag_of heap.new) }
     ensures sound { Sound timed_leq heap.new }
 {
     if let Some(time) = entry {

@@ -1,7 +1,7 @@
 -- Writing and reading back. Assumes nothing.
 use Rattle.std.proofs.Common.{◌≡◌, ℕ, zero, suc, ◌+◌, ◌^◌, ◌<◌, ◌≤◌, true, List, [], ◌∷◌, ◌++◌, map, length, Some, None, Ok, Err, Option, Result, sym, refl, ap, ◌∙◌, subst, append_assoc, append-nil, arith, length-append}
 use Rattle.std.specs.Option.{option_map, option_to_list}
-use Rattle.std.specs.List.{flat_map, AllByRecursion as All}
+use Rattle.std.specs.List.{flat_map, AllByRecursion}
 use Rattle.std.proofs.lemmas.Bool.{and_parts, leb-true, true≢false}
 use Rattle.std.proofs.lemmas.Bool.Decides.{nat_tests}
 use Rattle.refusal.specs.declared.Refusal.{Refusal}
@@ -142,15 +142,15 @@ entry_parsed (edge e) rest g = edge_parsed e rest g
 good_link : (n : ℕ) (e : Link) → n ≤ 256 → valid_link n e ≡ true → Writable e
 good_link n e l h = record { first = grind (arith, nat_tests); second = grind (arith, nat_tests); cost = grind (arith, nat_tests); code = grind (arith, nat_tests) }
 
-good_nodes : (ps : List ℕ) (more : List Entry) → all valid_prize ps ≡ true → All Good more → All Good (map node ps ++ more)
+good_nodes : (ps : List ℕ) (more : List Entry) → all valid_prize ps ≡ true → AllByRecursion Good more → AllByRecursion Good (map node ps ++ more)
 good_nodes [] more h g = g
 good_nodes (p ∷ ps) more h g = let q = and_parts (valid_prize p) (all valid_prize ps) h in let l = leb-true p 1000000000 q.0 in (omega arith, good_nodes ps more q.1 g)
 
-good_edges : (n : ℕ) (es : List Link) → n ≤ 256 → all (valid_link n) es ≡ true → All Good (map edge es)
+good_edges : (n : ℕ) (es : List Link) → n ≤ 256 → all (valid_link n) es ≡ true → AllByRecursion Good (map edge es)
 good_edges n [] l h = tt
 good_edges n (e ∷ es) l h = let q = and_parts (valid_link n e) (all (valid_link n) es) h in (good_link n e l q.0, good_edges n es l q.1)
 
-all_good : (net : Net) → valid net ≡ true → All Good (all_entries net)
+all_good : (net : Net) → valid net ≡ true → AllByRecursion Good (all_entries net)
 all_good net h =
     let v = valid_parts net h in
     let few = leb-true (length net.prizes) 256 v.few_nodes in
@@ -169,7 +169,7 @@ entries_first : (f : ℕ) (bs rest : List ℕ) (e : Entry) → 0 < length bs →
 entries_first f [] rest e l h = absurd (omega arith)
 entries_first f (c ∷ cs) rest e l h = entries_here (first_line (c ∷ cs)) rest e (entries_within f) h
 
-entries_written : (f : ℕ) (es : List Entry) → All Good es → length (flat_map entry_line es) ≤ f → entries_within f (flat_map entry_line es) ≡ es
+entries_written : (f : ℕ) (es : List Entry) → AllByRecursion Good es → length (flat_map entry_line es) ≤ f → entries_within f (flat_map entry_line es) ≡ es
 entries_written zero [] g l = refl
 entries_written (suc f) [] g l = refl
 entries_written zero (e ∷ es) g l = let s = parsed_shorter (entry_line e ++ flat_map entry_line es) (flat_map entry_line es) e (entry_parsed e (flat_map entry_line es) g.0) in absurd (omega arith)
@@ -184,7 +184,7 @@ abbrev Taken : Net → List Entry → Type 0
 Taken net [] = Unit {0}
 Taken net (e ∷ es) = (entry_refusal net e ≡ None) × Taken (with_entry net e) es
 
-lines_entered : (es : List Entry) (line : ℕ) (net : Net) → All Good es → Taken net es → enter_lines (length (flat_map entry_line es)) line net (flat_map entry_line es) ≡ Ok (entered net es)
+lines_entered : (es : List Entry) (line : ℕ) (net : Net) → AllByRecursion Good es → Taken net es → enter_lines (length (flat_map entry_line es)) line net (flat_map entry_line es) ≡ Ok (entered net es)
 lines_entered [] line net g t = refl
 lines_entered (e ∷ es) line net g t =
     let r = flat_map entry_line es in

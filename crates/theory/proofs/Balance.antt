@@ -1,6 +1,6 @@
 -- Counting back: at every moment of growth the maximal clusters that a plan meets are joined by its edges, and the moats pay for them.
 use Rattle.std.proofs.Common.{◌≡◌, ℕ, zero, suc, ◌+◌, ◌*◌, ◌≤◌, Bool, true, false, cond, ◌&&◌, ◌||◌, List, [], ◌∷◌, length, get_or, set, sym, refl, ap, ◌∙◌, subst, inl, inr, mul-le-mul_left, arith}
-use Rattle.std.specs.List.{AllByRecursion as All, range_with_len}
+use Rattle.std.specs.List.{AllByRecursion, range_with_len}
 use Rattle.std.proofs.lemmas.Bool.{cases_Bool, cases_eq, both_ways, cond-true, cond-false}
 use Rattle.std.proofs.lemmas.List.{get_or-set_same, get_or-set_other}
 use Rattle.network.specs.Nets.{Net}
@@ -191,7 +191,7 @@ module _ (net : Net) (N E : ℕ → Bool) where
       ])
 
   -- the inactive ones set apart
-  active_split : (ts : List Slot) → All (OnMaximal (λ t. cluster_active t ≡ false → touches N t ≡ true → 2 ≤ degree net E t)) ts →
+  active_split : (ts : List Slot) → AllByRecursion (OnMaximal (λ t. cluster_active t ≡ false → touches N t ≡ true → 2 ≤ degree net E t)) ts →
       2 * over_maximal (λ t. one (touches N t)) ts + over_maximal (λ t. cond (cluster_active t) (degree net E t) 0) ts
       ≤ over_maximal (λ t. cond (cluster_active t) (2 * one (touches N t)) 0) ts + over_maximal (degree net E) ts
   active_split [] h = omega arith

@@ -1,6 +1,6 @@
 -- Sums over a cluster's parts and over the maximal clusters, and what holds of every cluster. Assumes nothing.
 use Rattle.std.proofs.Common.{◌≡◌, ℕ, ◌+◌, ◌≤◌, List, [], ◌∷◌, sym, refl, ◌∙◌, arith}
-use Rattle.std.specs.List.{AllByRecursion as All}
+use Rattle.std.specs.List.{AllByRecursion}
 use Rattle.std.proofs.ByRecursion.{All-weaker}
 use Rattle.theory.specs.Sums.{sum_to}
 use Rattle.theory.specs.Clusters.{Cluster, Slot, under, Deep, OnMaximal, over_maximal, over_all, Every}
@@ -52,7 +52,7 @@ every_weaker P Q f ts h = All-weaker (OnMaximal (Deep P)) (OnMaximal (Deep Q)) e
     each inside k = tt
 
 -- sums over the maximal clusters
-pub maximal_le : (P : Cluster → Type 0) (f g : Cluster → ℕ) → ((t : Cluster) → P t → f t ≤ g t) → (ts : List Slot) → All (OnMaximal P) ts → over_maximal f ts ≤ over_maximal g ts
+pub maximal_le : (P : Cluster → Type 0) (f g : Cluster → ℕ) → ((t : Cluster) → P t → f t ≤ g t) → (ts : List Slot) → AllByRecursion (OnMaximal P) ts → over_maximal f ts ≤ over_maximal g ts
 maximal_le P f g h [] k = omega arith
 maximal_le P f g h (maximal t ∷ ts) k = let ih = maximal_le P f g h ts k.1 in let e = h t k.0 in omega arith
 maximal_le P f g h (inside ∷ ts) k = let ih = maximal_le P f g h ts k.1 in omega arith

@@ -1,6 +1,6 @@
 -- What growth keeps: limits, depths, parities, and a node of each active maximal cluster whose depth is the time.
 use Rattle.std.proofs.Common.{◌≡◌, ℕ, zero, suc, ◌+◌, ◌*◌, ◌%◌, ◌<◌, ◌≤◌, true, false, cond, ◌||◌, eqb, List, [], ◌∷◌, map, length, get_or, sym, refl, ap, ◌∙◌, subst, inl, inr, arith}
-use Rattle.std.specs.List.{AllByRecursion as All, range_with_len}
+use Rattle.std.specs.List.{AllByRecursion, range_with_len}
 use Rattle.std.proofs.lemmas.Bool.{eq-eqb, or_parts, cases_Bool, both_ways, cond-true, cond-false}
 use Rattle.std.proofs.lemmas.List.{length-set, length-map}
 use Rattle.std.proofs.lemmas.List.FromFn.{length-range_with_len}
@@ -44,7 +44,7 @@ pub record Inv (net : Net) (time : ℕ) (ts : List Slot) : Type 0 where
   pub shared : Shared (node_count net) ts
   pub loads : EdgeLoads net ts
   pub made : Every (Made net) ts
-  pub sits : All (OnMaximal (Sits time)) ts
+  pub sits : AllByRecursion (OnMaximal (Sits time)) ts
   pub sized : length ts + over_maximal (λ t. 1) ts ≡ 2 * node_count net
 
 -- the start
@@ -61,7 +61,7 @@ counted f a (suc n) =
     front zero g = omega arith
     front (suc k) g = let ih = front k g in omega arith
 
-pub all_lone : (P : Cluster → Type 0) → ((v : ℕ) → P (node fresh v)) → (vs : List ℕ) → All (OnMaximal P) (map lone vs)
+pub all_lone : (P : Cluster → Type 0) → ((v : ℕ) → P (node fresh v)) → (vs : List ℕ) → AllByRecursion (OnMaximal P) (map lone vs)
 all_lone P f [] = tt
 all_lone P f (v ∷ vs) = (f v, all_lone P f vs)
 

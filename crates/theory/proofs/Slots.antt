@@ -1,6 +1,6 @@
 -- The slots by number: a cluster becomes inactive, two merge, time passes. Assumes nothing.
 use Rattle.std.proofs.Common.{◌≡◌, ℕ, zero, suc, ◌+◌, ◌*◌, ◌<◌, ◌≤◌, Bool, true, false, cond, ◌≢◌, ◌⊎◌, List, [], ◌∷◌, ◌++◌, length, get_or, set, sym, refl, ap, ◌∙◌, subst, inl, inr, arith}
-use Rattle.std.specs.List.{AllByRecursion as All}
+use Rattle.std.specs.List.{AllByRecursion}
 use Rattle.std.proofs.lemmas.Bool.{cases_eq, cases_lt}
 use Rattle.std.proofs.lemmas.List.{length-set, length_push, length-map, get_or-set_other, get_or-set_same, get_or_append_left, get_or_push, get_or_past}
 use Rattle.std.proofs.ByRecursion.{All-append, All-set, All-get_or}
@@ -25,7 +25,7 @@ not_maximal t e = let z : ◌≡◌ {A = ℕ} 0 1 = cc in omega arith
 pub maximal_at : (f : Cluster → ℕ) (ts : List Slot) (c : ℕ) (t : Cluster) → get_or ts c inside ≡ maximal t → f t ≤ over_maximal f ts
 maximal_at f ts c t e = let a = sum_of_at (on_maximal f) ts c inside (maximal_below ts c t e) in let b = ap (on_maximal f) e in omega arith
 
-pub maximal_all : (P : Cluster → Type 0) (ts : List Slot) (c : ℕ) (t : Cluster) → All (OnMaximal P) ts → get_or ts c inside ≡ maximal t → P t
+pub maximal_all : (P : Cluster → Type 0) (ts : List Slot) (c : ℕ) (t : Cluster) → AllByRecursion (OnMaximal P) ts → get_or ts c inside ≡ maximal t → P t
 maximal_all P ts c t a e = subst (OnMaximal P) e (All-get_or (OnMaximal P) ts c inside (maximal_below ts c t e) a)
 
 -- one maximal cluster is replaced
@@ -52,7 +52,7 @@ module _ (ts : List Slot) (p q : ℕ) (l r new : Cluster) (pl : get_or ts p insi
       let g = sum_of_append (on_maximal f) (set (set ts p inside) q inside) (maximal new ∷ []) in
       omega arith
 
-  pub join_all : (P : Cluster → Type 0) → All (OnMaximal P) ts → P new → All (OnMaximal P) (join ts p q new)
+  pub join_all : (P : Cluster → Type 0) → AllByRecursion (OnMaximal P) ts → P new → AllByRecursion (OnMaximal P) (join ts p q new)
   join_all P a n = All-append (OnMaximal P) (set (set ts p inside) q inside) (maximal new ∷ []) (All-set (OnMaximal P) (set ts p inside) q inside tt (All-set (OnMaximal P) ts p inside tt a)) (n, tt)
 
   pub join_length : length (join ts p q new) ≡ length ts + 1
@@ -144,12 +144,12 @@ widen_inner d (node o v) = refl
 widen_inner d (merged o c e l r) = omega arith
 
 -- what holds of each maximal cluster
-pub all_maximal : (P : Cluster → Type 0) (ts : List Slot) → ((c : ℕ) (t : Cluster) → get_or ts c inside ≡ maximal t → P t) → All (OnMaximal P) ts
+pub all_maximal : (P : Cluster → Type 0) (ts : List Slot) → ((c : ℕ) (t : Cluster) → get_or ts c inside ≡ maximal t → P t) → AllByRecursion (OnMaximal P) ts
 all_maximal P [] h = tt
 all_maximal P (maximal t ∷ ts) h = (h 0 t refl, all_maximal P ts (λ c u e. h (suc c) u e))
 all_maximal P (inside ∷ ts) h = (tt, all_maximal P ts (λ c u e. h (suc c) u e))
 
-pub pass_by : (d : ℕ) (Q : Cluster → Type 0) (ts : List Slot) → ((c : ℕ) (t : Cluster) → get_or ts c inside ≡ maximal t → Q (widen d t)) → All (OnMaximal Q) (pass d ts)
+pub pass_by : (d : ℕ) (Q : Cluster → Type 0) (ts : List Slot) → ((c : ℕ) (t : Cluster) → get_or ts c inside ≡ maximal t → Q (widen d t)) → AllByRecursion (OnMaximal Q) (pass d ts)
 pass_by d Q [] h = tt
 pass_by d Q (maximal t ∷ ts) h = (h 0 t refl, pass_by d Q ts (λ c u e. h (suc c) u e))
 pass_by d Q (inside ∷ ts) h = (tt, pass_by d Q ts (λ c u e. h (suc c) u e))

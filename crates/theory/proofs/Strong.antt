@@ -1,7 +1,7 @@
 -- The strong plan: a tree cut from the grown tree, and none such is better.
 use Rattle.std.proofs.Common.{◌≡◌, ℕ, zero, suc, ◌+◌, ◌<◌, ◌≤◌, Bool, true, false, cond, ◌&&◌, ◌||◌, eqb, ltb, ◌⊎◌, List, [], ◌∷◌, Some, None, Option, sym, refl, ap, ◌∙◌, subst, inl, inr, arith}
 use Rattle.std.proofs.lemmas.Bool.{eqb-true, eq-eqb, or_left, or_right, or_cases, and_parts, and_from, cases_Bool, cases_eq, cases_lt, both_ways, cond-true, cond-false, ltb-true, ltb-false, and_cases}
-use Rattle.std.specs.List.{AllByRecursion as All}
+use Rattle.std.specs.List.{AllByRecursion}
 use Rattle.network.specs.Nets.{Net}
 use Rattle.theory.specs.Sums.{sum_of, sum_to}
 use Rattle.theory.specs.Nets.{node_count, edge_count, prize, first_end, second_end, cost}
@@ -157,7 +157,7 @@ module _ (net : Net) (ts : List Slot) (x : Last net ts) where
 
   -- which branches stay
   branches_kept : (cs : List Branch) → Hang net (grown_edge net ts) (root_of net ts) cs → ((v : ℕ) → hung (root_of net ts) cs v ≡ true → strong_nodes net ts v ≡ kept net (net_worth net ts) (root_of net ts) (best_node net ts) cs v) →
-      All (λ b. strong_nodes net ts b.child ≡ (eqb b.child (best_node net ts) || (strong_nodes net ts b.parent && ltb (cost net b.edge) (net_worth net ts b.child)))) cs
+      AllByRecursion (λ b. strong_nodes net ts b.child ≡ (eqb b.child (best_node net ts) || (strong_nodes net ts b.parent && ltb (cost net b.edge) (net_worth net ts b.child)))) cs
   branches_kept [] w a = tt
   branches_kept (b ∷ cs) w a =
       let old : (v : ℕ) → hung root cs v ≡ true → K v ≡ kept net W root h cs v = λ v i. a v (or_right (eqb v b.child) _ i) ∙ kept_old net F root W h b cs w v i in (

@@ -1,6 +1,6 @@
 -- Clusters with their moats, the families they make, and what a family lays on nodes and edges.
 use Rattle.std.specs.Prelude.{◌≡◌, ℕ, ◌+◌, Bool, true, false, cond, ◌||◌, List, [], ◌∷◌, ◌==◌}
-use Rattle.std.specs.List.{AllByRecursion as All}
+use Rattle.std.specs.List.{AllByRecursion}
 use Rattle.network.specs.Nets.{Net}
 use Rattle.theory.specs.Sums.{sum_of, sum_to, differ}
 use Rattle.theory.specs.Nets.{first_end, second_end}
@@ -95,7 +95,7 @@ over_all f ts = over_maximal (under f) ts
 
 -- P holds of every cluster
 abbrev pub Every : (Cluster → Type 0) → List Slot → Type 0
-Every P ts = All (OnMaximal (Deep P)) ts
+Every P ts = AllByRecursion (OnMaximal (Deep P)) ts
 
 -- some maximal cluster passes the test
 abbrev pub any_maximal : (Cluster → Bool) → List Slot → Bool

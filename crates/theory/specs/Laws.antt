@@ -1,6 +1,6 @@
 -- The laws of growth.
 use Rattle.std.specs.Prelude.{◌≡◌, ℕ, suc, ◌+◌, ◌-◌, ◌*◌, ◌%◌, ◌<◌, ◌≤◌, Bool, true, false, cond, ◌&&◌, ◌||◌, ◌≢◌, List, length, Some, None, ◌==◌, nat_lt, slice_index_or}
-use Rattle.std.specs.List.{AllByRecursion as All}
+use Rattle.std.specs.List.{AllByRecursion}
 use Rattle.network.specs.Nets.{Net, valid}
 use Rattle.theory.specs.Nets.{node_count, edge_count, prize, cost, first_end, second_end, doubled_prize, doubled_cost}
 use Rattle.theory.specs.Clusters.{Cluster, Slot, moat, holds, over, inner, over_all, Every, depth, load, Shared}
@@ -88,7 +88,7 @@ pub record HungTree (net : Net) (ts : List Slot) : Type 0 where
   pub best : (v : ℕ) → grown_node ts v ≡ true → net_worth net ts v ≤ net_worth net ts (best_node net ts)
   pub best_lowest : (v : ℕ) → grown_node ts v ≡ true → net_worth net ts v ≡ net_worth net ts (best_node net ts) → best_node net ts ≤ v
   pub best_kept : strong_nodes net ts (best_node net ts) ≡ true
-  pub branches_kept : All (λ b. strong_nodes net ts b.child ≡ (b.child == best_node net ts || (strong_nodes net ts b.parent && nat_lt (cost net b.edge) (net_worth net ts b.child)))) (branches net ts)
+  pub branches_kept : AllByRecursion (λ b. strong_nodes net ts b.child ≡ (b.child == best_node net ts || (strong_nodes net ts b.parent && nat_lt (cost net b.edge) (net_worth net ts b.child)))) (branches net ts)
 
 -- the strong plan is a tree cut from the grown tree
 abbrev pub StrongTree : Net → State → Type 0
