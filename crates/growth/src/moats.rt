@@ -1,5 +1,5 @@
 // Inner moats and doubled prizes of a cluster, from the tables.
-ghost use Rattle.std.specs.Prelude.{◌≡◌, ℕ, ◌*◌, ◌^◌, ◌<◌, ◌≤◌, length, if◌then◌else◌, nat_eq, slice_index};
+ghost use Rattle.std.specs.Prelude.{◌≡◌, ℕ, ◌*◌, ◌^◌, ◌<◌, ◌≤◌, length, slice_index};
 ghost use Rattle.growth.specs.Moats.{Falls, inner_moats};
 ghost use Rattle.growth.specs.Sums.{prizes_in};
 

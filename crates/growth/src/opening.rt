@@ -1,5 +1,4 @@
 // The tables at the start of growth.
-ghost use Rattle.std.specs.Prelude.{◌≡◌};
 ghost use Rattle.network.specs.Networks.{net_of};
 ghost use Rattle.theory.specs.Growth.{start};
 ghost use Rattle.growth.specs.Shown.{ShowsAll};

@@ -1,5 +1,5 @@
 // Opening a network, entering nodes and edges, and reading what was entered.
-ghost use Rattle.std.specs.Prelude.{◌≡◌, map, length, IfOk};
+ghost use Rattle.std.specs.Prelude.{◌≡◌, map, IfOk};
 ghost use Rattle.network.specs.Nets.{link, empty_net};
 ghost use Rattle.network.specs.Entries.{node_refusal, edge_refusal, before_code_refusal, add_node_answer, add_node, add_edge_answer, add_edge};
 ghost use Rattle.network.specs.Networks.{net_of};

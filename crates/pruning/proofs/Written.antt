@@ -9,6 +9,7 @@ use Rattle.theory.specs.Prune.{coverage, marks, marked, plan_of}
 use Rattle.theory.proofs.Sums.{sum_to_same}
 use Rattle.theory.proofs.Marks.{marked_below}
 use Rattle.theory.proofs.Valid.{Fine}
+use Rattle.pruning.specs.Answers.{answer_of}
 use Rattle.pruning.specs.Written.{edges_among}
 
 pub marks_more : (p : ℕ → Bool) (i : ℕ) (was out : List ℕ) → i < length was → out ≡ marks i p ++ drop i was → set out i (one (p i)) ≡ marks (i + 1) p ++ drop (i + 1) was
@@ -36,6 +37,10 @@ plan_same net N M E F n e =
     let nodes = marks_same (node_count net) N M n in
     let edges = marks_same (edge_count net) E F e in
     λ k. record { node_marks = nodes k; edge_marks = edges k; plan_cost = costs k; plan_lost = lost k; status = coverage (lost k) (left k) }
+
+-- and so do a plan's answers
+pub answer_same : (net : Net) (N M E F : ℕ → Bool) → ((v : ℕ) → v < node_count net → N v ≡ M v) → ((s : ℕ) → s < edge_count net → E s ≡ F s) → answer_of (plan_of net N E) ≡ answer_of (plan_of net M F)
+answer_same net N M E F n e = ap answer_of (plan_same net N M E F n e)
 
 -- the edges among some nodes ask for the network's nodes only
 pub among_same : (net : Net) → Fine net → (E N M : ℕ → Bool) → ((v : ℕ) → v < node_count net → N v ≡ M v) → (s : ℕ) → s < edge_count net → edges_among net E N s ≡ edges_among net E M s
