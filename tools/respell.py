@@ -10,7 +10,7 @@ import glob
 import re
 import sys
 
-DEFINED = re.compile(r"^(\s*)(?:(?:abbrev|pub|unfoldable)\s+)*(?:record\s+|data\s+)?([^\s(){}.,;:=λ@\"]+)\s*(?:\([^)]*\)\s*|\{[^}]*\}\s*)*:\s")
+DEFINED = re.compile(r"^(\s*)(?:(?:abbrev|pub|unfoldable)\s+)*(?:record\s+|data\s+)?([^\s(){}.,;:=λ@\"]+)\s*(?:\((?:[^()]|\([^()]*\))*\)\s*|\{[^}]*\}\s*)*:\s")
 ANSWERED = re.compile(r"^\s*(?:(?:abbrev|pub)\s+)*(\S+)\s*:\s*(?:goal|given)\.")
 TOKEN = re.compile(r"[^\s(){}.,;:=@\"«»\[\]|λ]+")
 

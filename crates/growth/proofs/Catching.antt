@@ -9,7 +9,7 @@ use Rattle.theory.specs.Clusters.{Slot}
 use Rattle.theory.specs.Due.{due_times, maximal_of}
 use Rattle.theory.proofs.Valid.{Fine}
 use Rattle.theory.proofs.Table.{table_edge, table_past, edge_due_none}
-use Rattle.growth.specs.Refreshed.{Right, Caught-up}
+use Rattle.growth.specs.Refreshed.{Right, CaughtUp}
 
 module _ (dues t u : List (Option ℕ)) (number : ℕ) (entry : Option ℕ) (long : length t ≡ 1535) (all : length dues ≡ 1535)
     (wrote : u ≡ with_entry t number entry) (is : entry ≡ get_or dues number None) where
@@ -22,7 +22,7 @@ module _ (dues t u : List (Option ℕ)) (number : ℕ) (entry : Option ℕ) (lon
   pub right_here : Right dues u number
   right_here = ⊎_elim here_within (λ l. get_or_past u number None (let e = long_after in omega arith) ∙ sym (get_or_past dues number None (omega arith))) (cases_lt number 1535)
 
-  pub caught_up : Caught-up dues t u
+  pub caught_up : CaughtUp dues t u
   caught_up = record {
     same_length = long_after ∙ sym long;
     keeps = λ j r. ⊎_elim

@@ -20,7 +20,7 @@ abbrev pub Right : List (Option ℕ) → List (Option ℕ) → ℕ → Type 0
 Right dues table j = slice_index_or table j None ≡ slice_index_or dues j None
 
 -- from one table to the next no entry that was right is lost
-pub record Caught-up (dues t u : List (Option ℕ)) : Type 0 where
+pub record CaughtUp (dues t u : List (Option ℕ)) : Type 0 where
   pub same_length : length u ≡ length t
   pub keeps : (j : ℕ) → Right dues t j → Right dues u j
 

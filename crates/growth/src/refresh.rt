@@ -5,7 +5,7 @@ ghost use Rattle.network.specs.Networks.{net_of};
 ghost use Rattle.theory.specs.Nets.{edge_count};
 ghost use Rattle.theory.specs.Due.{among};
 ghost use Rattle.growth.specs.Shown.{Shown};
-ghost use Rattle.growth.specs.Refreshed.{dues_shown, Right, Caught-up, is_at, touched, changed, Refreshed};
+ghost use Rattle.growth.specs.Refreshed.{dues_shown, Right, CaughtUp, is_at, touched, changed, Refreshed};
 
 use crate::Tables;
 use crate::reads::edge_at;
@@ -52,7 +52,7 @@ fn write_entry<Q: EventQueue>(queue: &mut Q, number: usize, entry: Option<u64>)
 // Brings the entry of one number up to date.
 fn write_due<Q: EventQueue>(queue: &mut Q, tables: &Tables, network: &Network, number: usize)
     requires { Shown (net_of network.now) tables.now }
-    ensures caught { Caught-up (dues_shown (net_of network.now) tables.now) (Q.EventQueue.table queue.old) (Q.EventQueue.table queue.new) }
+    ensures caught { CaughtUp (dues_shown (net_of network.now) tables.now) (Q.EventQueue.table queue.old) (Q.EventQueue.table queue.new) }
     ensures here { Right (dues_shown (net_of network.now) tables.now) (Q.EventQueue.table queue.new) number }
     ensures sized { length (Q.EventQueue.table queue.new) ≡ 1535 }
 {
@@ -80,7 +80,7 @@ fn refresh_edge<Q: EventQueue>(
 )
     requires shown { Shown (net_of network.now) tables.now }
     requires known { s < edge_count (net_of network.now) }
-    ensures caught { Caught-up (dues_shown (net_of network.now) tables.now) (Q.EventQueue.table queue.old) (Q.EventQueue.table queue.new) }
+    ensures caught { CaughtUp (dues_shown (net_of network.now) tables.now) (Q.EventQueue.table queue.old) (Q.EventQueue.table queue.new) }
     ensures here { is_at (net_of network.now) tables.now c s ≡ true → Right (dues_shown (net_of network.now) tables.now) (Q.EventQueue.table queue.new) (511 + s) }
 {
     if !tables.is_at(network, c, s) {
@@ -92,7 +92,7 @@ fn refresh_edge<Q: EventQueue>(
 // Brings the entries of the edges at a cluster up to date.
 fn refresh_edges<Q: EventQueue>(queue: &mut Q, tables: &Tables, network: &Network, c: usize)
     requires { Shown (net_of network.now) tables.now }
-    ensures caught { Caught-up (dues_shown (net_of network.now) tables.now) (Q.EventQueue.table queue.old) (Q.EventQueue.table queue.new) }
+    ensures caught { CaughtUp (dues_shown (net_of network.now) tables.now) (Q.EventQueue.table queue.old) (Q.EventQueue.table queue.new) }
     ensures here { (s : ℕ) → s < edge_count (net_of network.now) → is_at (net_of network.now) tables.now c s ≡ true → Right (dues_shown (net_of network.now) tables.now) (Q.EventQueue.table queue.new) (511 + s) }
 {
     let count = network.edges().len();
@@ -111,7 +111,7 @@ fn refresh_clusters<Q: EventQueue>(
     requires shown { Shown (net_of network.now) tables.now }
     requires some { 1 ≤ tables.now.family.formed }
     ensures answer { result ≡ changed tables.now number }
-    ensures caught { Caught-up (dues_shown (net_of network.now) tables.now) (Q.EventQueue.table queue.old) (Q.EventQueue.table queue.new) }
+    ensures caught { CaughtUp (dues_shown (net_of network.now) tables.now) (Q.EventQueue.table queue.old) (Q.EventQueue.table queue.new) }
     ensures here { (c : ℕ) → among c (touched tables.now number) ≡ true → Right (dues_shown (net_of network.now) tables.now) (Q.EventQueue.table queue.new) c }
     ensures sized { length (Q.EventQueue.table queue.new) ≡ 1535 }
 {

@@ -2,7 +2,7 @@
 use Rattle.std.proofs.Common.{◌≡◌, ℕ, suc, ◌+◌, ◌<◌, ◌≤◌, Bool, cond, List, [], ◌∷◌, ◌++◌, length, get_or, Some, None, Option, sym, refl, ap, ◌∙◌, subst, ⊎_elim, append_assoc, arith}
 use Rattle.std.proofs.lemmas.List.{append-nil, get_or_append_left, get_or_push, get_or_past, length_push}
 use Rattle.std.proofs.lemmas.Bool.Decides.{leb_tells, eqb_tells}
-use Rattle.queue.specs.Tables.{sooner, scan, first_entry, Comes-first, RightAnswer, FirstEntryStands}
+use Rattle.queue.specs.Tables.{sooner, scan, first_entry, ComesFirst, RightAnswer, FirstEntryStands}
 
 pub same_time : (o : Option ℕ) (a b : ℕ) → o ≡ Some a → o ≡ Some b → a ≡ b
 same_time o a b p q = cc
@@ -41,10 +41,10 @@ abbrev Before : ℕ × ℕ → ℕ → ℕ → Type 0
 Before e k time = (e.0 ≤ time) × (time ≡ e.0 → e.1 ≤ k)
 
 -- an entry that comes no later than each comes first
-pub first_of : (t : List (Option ℕ)) (e : ℕ × ℕ) → get_or t e.1 None ≡ Some e.0 → ((k time : ℕ) → get_or t k None ≡ Some time → Before e k time) → Comes-first t e
+pub first_of : (t : List (Option ℕ)) (e : ℕ × ℕ) → get_or t e.1 None ≡ Some e.0 → ((k time : ℕ) → get_or t k None ≡ Some time → Before e k time) → ComesFirst t e
 first_of t e in' all = record { entered = in'; earliest = λ k time at. (all k time at).0; lowest = λ k at. (all k e.0 at).1 refl }
 
-before : (t : List (Option ℕ)) (e : ℕ × ℕ) → Comes-first t e → (k time : ℕ) → get_or t k None ≡ Some time → Before e k time
+before : (t : List (Option ℕ)) (e : ℕ × ℕ) → ComesFirst t e → (k time : ℕ) → get_or t k None ≡ Some time → Before e k time
 before t e h k time at = (h.earliest k time at, λ same. h.lowest k (at ∙ ap Some same))
 
 -- what is said of each entry of the longer table follows from what is said of the old ones and of the new one
@@ -69,12 +69,12 @@ push t (Some e) None h =
     first_of (t ++ None ∷ []) e (kept t None e.1 e.0 h.entered)
     (each t None (Before e) (before t e h) (λ s bad. absurd (not_both None s bad refl)))
 push t (Some e) (Some time) h =
-    let taken : time < e.0 → Comes-first (t ++ Some time ∷ []) (time, length t) =
+    let taken : time < e.0 → ComesFirst (t ++ Some time ∷ []) (time, length t) =
     λ lt. first_of (t ++ Some time ∷ []) (time, length t) (at_new t (Some time))
     (each t (Some time) (Before (time, length t))
     (λ k s at. let late = h.earliest k s at in (omega arith, λ same. absurd (omega arith)))
     (λ s at. let same = same_time (Some time) time s refl at in (omega arith, λ _. omega arith))) in
-    let left : e.0 ≤ time → Comes-first (t ++ Some time ∷ []) e =
+    let left : e.0 ≤ time → ComesFirst (t ++ Some time ∷ []) e =
     λ le. first_of (t ++ Some time ∷ []) e (kept t (Some time) e.1 e.0 h.entered)
     (each t (Some time) (Before e) (before t e h)
     (λ s at. let same = same_time (Some time) time s refl at in let low = entry_below t e.1 e.0 h.entered in (omega arith, λ _. omega arith))) in

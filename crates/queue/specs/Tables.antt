@@ -44,7 +44,7 @@ abbrev pub first_entry : List (Option ℕ) → Option (ℕ × ℕ)
 first_entry t = scan None 0 t
 
 -- e is the first entry: it is in the table, no entry is earlier, and none of its time has a lower number
-pub record Comes-first (t : List (Option ℕ)) (e : ℕ × ℕ) : Type 0 where
+pub record ComesFirst (t : List (Option ℕ)) (e : ℕ × ℕ) : Type 0 where
   pub entered : get_or t e.1 None ≡ Some e.0
   pub earliest : (number time : ℕ) → slice_index_or t number None ≡ Some time → e.0 ≤ time
   pub lowest : (number : ℕ) → slice_index_or t number None ≡ Some e.0 → e.1 ≤ number
@@ -52,7 +52,7 @@ pub record Comes-first (t : List (Option ℕ)) (e : ℕ × ℕ) : Type 0 where
 -- what an answer has to say of a table: its first entry, or that it has none
 abbrev pub RightAnswer : List (Option ℕ) → Option (ℕ × ℕ) → Type 0
 RightAnswer t None = (number : ℕ) → slice_index_or t number None ≡ None
-RightAnswer t (Some e) = Comes-first t e
+RightAnswer t (Some e) = ComesFirst t e
 
 -- `first_entry` is such an answer for every table, and there is no other
 abbrev pub FirstEntryStands : Type 0

@@ -1,7 +1,7 @@
 -- The earliest entry of a table is its least. Assumes nothing.
 use Rattle.std.proofs.Common.{◌≡◌, ℕ, ◌<◌, ◌≤◌, List, get_or, Some, None, Option, sym, subst, ⊎_elim, arith}
 use Rattle.std.proofs.lemmas.Bool.{cases_eq}
-use Rattle.queue.specs.Tables.{Comes-first, RightAnswer}
+use Rattle.queue.specs.Tables.{ComesFirst, RightAnswer}
 use Rattle.queue.proofs.Firsts.{first_right}
 use Rattle.theory.specs.Due.{earliest}
 
@@ -10,7 +10,7 @@ abbrev pub Earliest : List (Option ℕ) → Option (ℕ × ℕ) → Type 0
 Earliest table None = (k : ℕ) → get_or table k None ≡ None
 Earliest table (Some p) = (get_or table p.1 None ≡ Some p.0) × ((k time : ℕ) → get_or table k None ≡ Some time → (p.0 ≤ time) × (k < p.1 → p.0 < time))
 
-later : (table : List (Option ℕ)) (e : ℕ × ℕ) → Comes-first table e → (k time : ℕ) → get_or table k None ≡ Some time → k < e.1 → e.0 < time
+later : (table : List (Option ℕ)) (e : ℕ × ℕ) → ComesFirst table e → (k time : ℕ) → get_or table k None ≡ Some time → k < e.1 → e.0 < time
 later table e h k time is l =
     let le = h.earliest k time is in
     ⊎_elim

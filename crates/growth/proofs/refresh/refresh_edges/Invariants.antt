@@ -1,9 +1,9 @@
 use Rattle.std.proofs.Common.{◌≡◌, ℕ, ◌+◌, ◌<◌, true}
 use Rattle.network.specs.Networks.{net_of}
-use Rattle.growth.specs.Refreshed.{dues_after, Right, Caught-up, is_at}
+use Rattle.growth.specs.Refreshed.{dues_after, Right, CaughtUp, is_at}
 use Rattle.growth.proofs.refresh.refresh_edges.Given as goal
 
 abbrev pub invariant-loop-s : goal.invariant-loop-s
 invariant-loop-s g l =
-    Caught-up (dues_after (net_of l.network) l.tables.steps) (g.Q.EventQueue.table l.initial.queue) (g.Q.EventQueue.table l.queue)
+    CaughtUp (dues_after (net_of l.network) l.tables.steps) (g.Q.EventQueue.table l.initial.queue) (g.Q.EventQueue.table l.queue)
     × ((s : ℕ) → s < l.s → is_at (net_of l.network) l.tables l.c s ≡ true → Right (dues_after (net_of l.network) l.tables.steps) (g.Q.EventQueue.table l.queue) (511 + s))
