@@ -1,7 +1,8 @@
 -- The keys of a table's entries, as the heap queue keeps them. Assumes nothing.
-use Rattle.std.proofs.Common.{◌≡◌, ℕ, zero, suc, ◌+◌, ◌<◌, true, false, cond, List, [], ◌∷◌, ◌++◌, length, get_or, set, replicate, is_some, Some, None, Option, sym, refl, ap, ◌∙◌, subst, ⊎_elim, arith}
+use Rattle.std.proofs.Common.{◌≡◌, ℕ, zero, suc, ◌+◌, ◌<◌, true, false, cond, List, [], ◌∷◌, ◌++◌, length, get_or, set, replicate, is_some, MatchOption, Some, None, Option, sym, refl, ap, ◌∙◌, subst, ⊎_elim, arith}
 use Rattle.std.specs.List.Sorted.{IsPermutation}
 use Rattle.std.specs.List.{ContainsAt, AllByRecursion}
+use Rattle.std.specs.Option.{option_map}
 use Rattle.std.proofs.Permutation.{which}
 use Rattle.std.proofs.ByRecursion.{has_append_right}
 use Rattle.std.proofs.lemmas.List.{get_or-set_same, get_or-set_other, length-append, length-set}
@@ -168,3 +169,8 @@ none_first t ks h empty = λ n. elim (get_or t n None) as (λ o. get_or t n None
   | None ↦ λ _. refl
   | Some s ↦ λ e. absurd (let has = entry_has_key t ks h n s e in let none : length ks ≡ 0 = ap length empty in omega (arith, has.1))
 ] refl
+
+-- the least key, where there is one, is that of the first entry
+pub first_by_least : (t : List (Option ℕ)) (ks : List TimedKey) (least : Option TimedKey) → KeysOf t ks → MatchOption least (ks ≡ []) (λ k. Least timed_leq k ks) → RightAnswer t (option_map (λ k. (k.time, k.number)) least)
+first_by_least t ks None h empty = none_first t ks h empty
+first_by_least t ks (Some k) h least = least_first t ks k h least

@@ -10,9 +10,7 @@ pub fn take_first<Q: EventQueue>(queue: &mut Q) -> Option<(u64, usize)>
     ensures answer { result ≡ first_entry (Q.EventQueue.table queue.old) }
     ensures after { Q.EventQueue.table queue.new ≡ without_first (Q.EventQueue.table queue.old) }
 {
-    let Some((time, number)) = queue.first() else {
-        return None;
-    };
+    let (time, number) = queue.first()?;
     // Never refused: an entry's number is one of the table's.
     let _ = queue.remove(number);
     Some((time, number))
@@ -24,11 +22,11 @@ pub fn drain<Q: EventQueue>(queue: &mut Q, out: &mut [(u64, usize)]) -> usize
     ensures after { Q.EventQueue.table queue.new ≡ without (length out.old) (Q.EventQueue.table queue.old) }
     ensures written { out.new ≡ in_order (length out.old) (Q.EventQueue.table queue.old) ++ drop result out.old }
 {
-    for i in 0..out.len() {
+    for (i, place) in out.iter_mut().enumerate() {
         let Some(entry) = take_first(queue) else {
             return i;
         };
-        out[i] = entry;
+        *place = entry;
     }
     out.len()
 }

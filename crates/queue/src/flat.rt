@@ -24,6 +24,8 @@ impl FlatQueue {
 impl EventQueue for FlatQueue {
     ghost table = { λ q. q.times };
 
+    ghost sized = { λ q. q.full };
+
     fn set(&mut self, number: usize, time: u64) -> Result<(), Refusal> {
         check_number(number)?;
         self.times[number] = Some(time);
@@ -50,8 +52,8 @@ pub(crate) fn look_through(times: &[Option<u64>]) -> Option<(u64, usize)>
     ensures { result ≡ first_entry times.now }
 {
     let mut found = None;
-    for i in 0..times.len() {
-        found = sooner(found, i, times[i]);
+    for (i, entry) in times.iter().enumerate() {
+        found = sooner(found, i, *entry);
     }
     found
 }

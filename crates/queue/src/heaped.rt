@@ -2,9 +2,9 @@
 ghost use Rattle.std.specs.Prelude.{◌≡◌, ◌≤◌, ◌++◌, length};
 ghost use Rattle.std.specs.List.Sorted.{IsPermutation};
 ghost use Rattle.std.specs.List.{ContainsAt, AllByRecursion};
-ghost use Rattle.heap.specs.Bags.{bag_of, room_of, Sound};
+ghost use Rattle.heap.specs.Bags.{bag_of, room_of};
 ghost use Rattle.queue.specs.Tables.{no_entries};
-ghost use Rattle.queue.specs.Timed.{timed_leq, key_of, KeysOf, room_answer};
+ghost use Rattle.queue.specs.Timed.{key_of, KeysOf, room_answer};
 
 use crate::flat::look_through;
 use crate::timed::TimedKey;
@@ -19,7 +19,6 @@ pub struct HeapQueue<'a> {
     heap: Heap<'a, TimedKey>,
     times: [Option<u64>; 1535],
     ghost full: { length times ≡ 1535 },
-    ghost sound: { Sound timed_leq heap },
     ghost holds: { 1535 ≤ room_of heap → KeysOf times (bag_of heap) },
 }
 
@@ -47,10 +46,8 @@ impl<'a> HeapQueue<'a> {
 
 // Takes the key of a number's entry out of the heap, if it has one.
 fn take_key(heap: &mut Heap<'_, TimedKey>, number: usize, entry: Option<u64>)
-    requires { Sound timed_leq heap.old }
     ensures room { room_of heap.new ≡ room_of heap.old }
     ensures bag { AllByRecursion (ContainsAt (bag_of heap.old)) (key_of number entry) → IsPermutation (bag_of heap.old) (key_of number entry ++ bag_of heap.new) }
-    ensures sound { Sound timed_leq heap.new }
 {
     if let Some(time) = entry {
         heap.take_equal(TimedKey { time, number });
@@ -59,6 +56,8 @@ fn take_key(heap: &mut Heap<'_, TimedKey>, number: usize, entry: Option<u64>)
 
 impl<'a> EventQueue for HeapQueue<'a> {
     ghost table = { λ q. q.times };
+
+    ghost sized = { λ q. q.full };
 
     fn set(&mut self, number: usize, time: u64) -> Result<(), Refusal> {
         check_number(number)?;
@@ -87,9 +86,6 @@ impl<'a> EventQueue for HeapQueue<'a> {
         if self.heap.room() < 1535 {
             return look_through(&self.times);
         }
-        match self.heap.least() {
-            Some(key) => Some((key.time, key.number)),
-            None => None,
-        }
+        self.heap.least().map(|key| (key.time, key.number))
     }
 }

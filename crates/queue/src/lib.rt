@@ -18,20 +18,18 @@ pub use timed::TimedKey;
 
 // Each call's effect on the table is all that a caller may know of a queue, so that one may stand for another.
 pub trait EventQueue {
-    // The time of each number from 0 to 1,534, or nothing; `sized` says that it has these numbers and no others.
+    // The time of each number from 0 to 1,534, or nothing.
     ghost table: { Self → List (Option ℕ) };
 
     // Gives the number this time, whatever it had; a number above 1,534 is refused, and the table stays.
     fn set(&mut self, number: usize, time: u64) -> Result<(), Refusal>
         ensures answer { result ≡ write_answer number }
-        ensures after { table self.new ≡ with_entry (table self.old) number (Some time) }
-        ensures sized { length (table self.old) ≡ 1535 };
+        ensures after { table self.new ≡ with_entry (table self.old) number (Some time) };
 
     // Gives the number nothing, also where it had nothing; refuses as `set` does.
     fn remove(&mut self, number: usize) -> Result<(), Refusal>
         ensures answer { result ≡ write_answer number }
-        ensures after { table self.new ≡ with_entry (table self.old) number None }
-        ensures sized { length (table self.old) ≡ 1535 };
+        ensures after { table self.new ≡ with_entry (table self.old) number None };
 
     // Gives every number nothing.
     fn clear(&mut self)
@@ -39,8 +37,10 @@ pub trait EventQueue {
 
     // The first entry, as time and number: the least time, and the lowest number among equal times.
     fn first(&self) -> Option<(u64, usize)>
-        ensures answer { result ≡ first_entry (table self.now) }
-        ensures sized { length (table self.now) ≡ 1535 };
+        ensures { result ≡ first_entry (table self.now) };
+
+    // The table has the numbers from 0 to 1,534 and no others.
+    ghost sized: { (q : Self) → length (table q) ≡ 1535 };
 }
 
 // Refuses a number above 1,534.

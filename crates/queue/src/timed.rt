@@ -4,7 +4,8 @@ ghost use Rattle.std.proofs.Common.{rules};
 
 use heap::Key;
 
-#[derive(Clone, Copy)]
+// By time, and by number among equal times.
+#[derive(Clone, Copy, PartialEq, Eq, PartialOrd, Ord)]
 pub struct TimedKey {
     pub time: u64,
     pub number: usize,
@@ -16,10 +17,6 @@ impl Key for TimedKey {
     ghost ordered = { Prim.search rules };
 
     fn at_most(self, other: TimedKey) -> bool {
-        if self.time == other.time {
-            self.number <= other.number
-        } else {
-            self.time < other.time
-        }
+        self <= other
     }
 }

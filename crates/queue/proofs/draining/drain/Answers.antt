@@ -1,6 +1,7 @@
 -- A turn takes one entry out; an empty queue or a full list ends it.
-use Rattle.std.proofs.Common.{◌≡◌, ◌-◌, length, refl, ap, arith}
+use Rattle.std.proofs.Common.{◌≡◌, ◌-◌, length, refl, ap, ◌∙◌, arith}
 use Rattle.queue.specs.Draining.{in_order, without}
+use Rattle.std.proofs.lemmas.List.{set-get_or}
 use Rattle.queue.proofs.Drains as drains
 use Rattle.queue.proofs.draining.drain.Goals as goal
 
@@ -30,7 +31,7 @@ returns-in_default g c =
     let after = g.Q.EventQueue.table c.take_first.new.queue in
     let told = c.in_default.ensures in
     let e = drains.ended_empty n l.i u t c.args.out.now l.out l.invariant (omega arith) told.answer after told.after in
-    record { answer = e.0; after = e.1; written = e.2 }
+    record { answer = e.0; after = e.1; written = set-get_or l.out l.i (0, 0) ∙ e.2 }
 
 pub returns : goal.returns
 returns g c =

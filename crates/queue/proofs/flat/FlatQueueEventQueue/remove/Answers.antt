@@ -9,4 +9,4 @@ returns-in_err-check_number c =
     let q = c.args.self.now in
     let p = err_from_is_err_and c.from_residual.result c.from_residual.ensures.1 in
     let told = c.in_err-check_number.ensures in
-    record { answer = p.1 ∙ ap Err p.2 ∙ told; after = refused_stays q.times c.args.number None _ q.full told; sized = q.full }
+    record { answer = p.1 ∙ ap Err p.2 ∙ told; after = refused_stays q.times c.args.number None _ q.full told }

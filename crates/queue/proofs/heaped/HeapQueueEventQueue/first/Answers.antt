@@ -1,17 +1,14 @@
 -- The least key is that of the first entry, and where there is none there is no entry.
-use Rattle.std.proofs.Common.{arith}
+use Rattle.std.proofs.Common.{◌≡◌, ◌∙◌, rules, arith}
+use Rattle.std.specs.Option.{option_map}
+use Rattle.heap.specs.Bags.{bag_of}
 use Rattle.queue.proofs.Firsts.{only_first}
-use Rattle.queue.proofs.Keeps.{least_first, none_first}
+use Rattle.queue.proofs.Keeps.{first_by_least}
 use Rattle.queue.proofs.heaped.HeapQueueEventQueue.first.Goals as goal
 
-pub returns-in-Some : goal.returns-in-Some
-returns-in-Some c =
+pub returns : goal.returns
+returns c =
     let q = c.args.self.now in
     let told = c.room.ensures in
-    record { answer = only_first q.times _ (least_first q.times _ c.in-Some.key (q.holds (omega arith)) c.in-Some.ensures); sized = q.full }
-
-pub returns-in-None : goal.returns-in-None
-returns-in-None c =
-    let q = c.args.self.now in
-    let told = c.room.ensures in
-    record { answer = only_first q.times _ (none_first q.times _ (q.holds (omega arith)) c.in-None.ensures); sized = q.full }
+    let shown : c.map.result ≡ option_map (λ k. (k.time, k.number)) c.least.result = search rules in
+    shown ∙ only_first q.times _ (first_by_least q.times (bag_of q.heap) c.least.result (q.holds (omega arith)) c.least.ensures)

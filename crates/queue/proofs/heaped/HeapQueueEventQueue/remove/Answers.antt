@@ -13,7 +13,7 @@ returns-in_err-check_number c =
     let q = c.args.self.now in
     let p = err_from_is_err_and c.from_residual.result c.from_residual.ensures.1 in
     let told = c.in_err-check_number.ensures in
-    record { answer = p.1 ∙ ap Err p.2 ∙ told; after = refused_stays q.times c.args.number None _ q.full told; sized = q.full }
+    record { answer = p.1 ∙ ap Err p.2 ∙ told; after = refused_stays q.times c.args.number None _ q.full told }
 
 pub invariant_of-self : goal.invariant_of-self
 invariant_of-self c =
@@ -24,4 +24,4 @@ invariant_of-self c =
     let took = c.take_key.ensures in
     let holds : 1535 ≤ room_of c.take_key.new.heap → KeysOf (set q.times n None) (bag_of c.take_key.new.heap) =
     λ roomy. let h = q.holds (omega (arith, took.room)) in taken_out q.times n in' _ _ h (took.bag (entry_held q.times _ h n)) in
-    record { full = length-set q.times n None ∙ q.full; sound = took.sound; holds = holds }
+    record { full = length-set q.times n None ∙ q.full; holds = holds }

@@ -16,7 +16,7 @@ returns-in_err-check_number c =
     let q = c.args.self.now in
     let p = err_from_is_err_and c.from_residual.result c.from_residual.ensures.1 in
     let told = c.in_err-check_number.ensures in
-    record { answer = p.1 ∙ ap Err p.2 ∙ told; after = refused_stays q.times c.args.number (Some c.args.time) _ q.full told; sized = q.full }
+    record { answer = p.1 ∙ ap Err p.2 ∙ told; after = refused_stays q.times c.args.number (Some c.args.time) _ q.full told }
 
 pub invariant_of-self : goal.invariant_of-self
 invariant_of-self c =
@@ -37,4 +37,4 @@ invariant_of-self c =
     let taken : c.insert.result ≡ Ok tt = put.answer ∙ sym (cond_below (length left) (room_of c.take_key.new.heap) (Ok tt) (Err HeapFull) some) in
     let bag : IsPermutation (record { time = time; number = n } ∷ left) after = subst (λ r. IsPermutation (cond (is_ok r) (record { time = time; number = n } ∷ left) left) after) taken put.bag in
     put_in q.times n in' time _ left after h out bag in
-    record { full = length-set q.times n (Some time) ∙ q.full; sound = put.sound; holds = holds }
+    record { full = length-set q.times n (Some time) ∙ q.full; holds = holds }
