@@ -1,16 +1,17 @@
 -- An entry that is not refused keeps a network valid. Assumes nothing.
-use Rattle.std.proofs.Common.{◌≡◌, ℕ, ◌+◌, ◌<◌, Bool, true, cond, leb, List, [], ◌∷◌, ◌++◌, length, Some, None, vec_items, vec_len, sym, refl, ap, ◌∙◌, arith}
+use Rattle.std.proofs.Common.{◌≡◌, ℕ, ◌+◌, ◌<◌, Bool, true, cond, leb, List, [], ◌∷◌, ◌++◌, length, Some, None, Ok, Option, vec_items, vec_len, sym, refl, ap, ◌∙◌, arith}
 use Rattle.std.proofs.lemmas.List.{length_push, length-map, map_push}
 use Rattle.std.proofs.lemmas.Bool.{and_parts, and_from}
 use Rattle.std.proofs.lemmas.Bool.Decides.{nat_tests}
 use Rattle.refusal.specs.declared.Refusal.TheVariants.{BadCode}
+use Rattle.refusal.specs.declared.Refusal.{Refusal}
 use Rattle.network.specs.Codes.{all, is_code, code_from}
 use Rattle.network.specs.Nets.{Net, Link, link, valid, valid_link, valid_prize}
 use Rattle.network.specs.Edges.{link_of, net_from, text_of}
 use Rattle.network.specs.Networks.{net_of}
 use Rattle.network.specs.declared.edge.Edge.{Edge}
 use Rattle.network.specs.declared.network.Network.{Network}
-use Rattle.network.specs.Entries.{node_refusal, edge_refusal, before_code_refusal, code_refusal, or_else, with_node, with_edge}
+use Rattle.network.specs.Entries.{node_refusal, edge_refusal, before_code_refusal, code_refusal, or_else, answer_of, with_node, with_edge}
 
 -- a network has as many edges as its list of them
 pub edges_long : (n : Network) → length (net_of n).edges ≡ vec_len n.edges
@@ -88,3 +89,8 @@ edge_pushed n es e text is same =
     ap (net_from (vec_items n.prizes)) is
     ∙ ap (λ l. record { prizes = vec_items n.prizes; edges = l }) (map_push link_of (vec_items n.edges) e)
     ∙ ap (λ t. with_edge (net_of n) (link e.first e.second e.cost t)) same
+
+-- what is answered with a value is not refused
+pub not_refused : (why : Option Refusal) → Ok (tt {0}) ≡ answer_of why (tt {0}) → why ≡ None
+not_refused None e = refl
+not_refused (Some why) e = grind arith

@@ -32,10 +32,10 @@ or_else (Some why) later = Some why
 abbrev pub edge_refusal : Net → Link → Option Refusal
 edge_refusal net e = or_else (before_code_refusal net e.first e.second e.cost) (code_refusal e.code)
 
--- the answer: the new number, or the refusal
-abbrev pub answer_of : Option Refusal → ℕ → Result ℕ Refusal
-answer_of None number = Ok number
-answer_of (Some why) number = Err why
+-- the answer: what was asked for, or the refusal
+abbrev pub answer_of : {X : Type 0} → Option Refusal → X → Result X Refusal
+answer_of None x = Ok x
+answer_of (Some why) x = Err why
 
 -- a refusal leaves what was there
 abbrev pub unless_refused : Option Refusal → Net → Net → Net

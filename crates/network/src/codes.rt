@@ -9,21 +9,13 @@ use super::Code;
 fn is_code_byte(b: u8) -> bool
     ensures { result ≡ is_code_byte b }
 {
-    (b >= b'0' && b <= b'9') || (b >= b'A' && b <= b'Z')
+    b.is_ascii_digit() || b.is_ascii_uppercase()
 }
 
 fn is_code(text: &[u8]) -> bool
     ensures { result ≡ is_code text.now }
 {
-    if text.len() < 1 || text.len() > 8 {
-        return false;
-    }
-    for b in text {
-        if !is_code_byte(*b) {
-            return false;
-        }
-    }
-    true
+    (1..=8).contains(&text.len()) && text.iter().all(|b| is_code_byte(*b))
 }
 
 impl Code {

@@ -1,7 +1,7 @@
 // Opening a network, entering nodes and edges, and reading what was entered.
 ghost use Rattle.std.specs.Prelude.{◌≡◌, map, IfOk};
 ghost use Rattle.network.specs.Nets.{link, empty_net};
-ghost use Rattle.network.specs.Entries.{node_refusal, edge_refusal, before_code_refusal, add_node_answer, add_node, add_edge_answer, add_edge};
+ghost use Rattle.network.specs.Entries.{node_refusal, before_code_refusal, answer_of, add_node_answer, add_node, add_edge_answer, add_edge};
 ghost use Rattle.network.specs.Networks.{net_of};
 ghost use Rattle.network.specs.Edges.{link_of};
 
@@ -33,16 +33,17 @@ impl Network {
         self.prizes.clear();
     }
 
-    fn node_refusal(&self, prize: u64) -> Option<Refusal>
-        ensures { result ≡ node_refusal (net_of self.now) prize }
+    // Whether a node with this prize can be entered.
+    fn check_node(&self, prize: u64) -> Result<(), Refusal>
+        ensures { result ≡ answer_of (node_refusal (net_of self.now) prize) tt }
     {
         if self.prizes.len() >= MOST_NODES {
-            return Some(Refusal::NodesFull);
+            return Err(Refusal::NodesFull);
         }
         if prize > MOST_AMOUNT {
-            return Some(Refusal::AmountTooLarge);
+            return Err(Refusal::AmountTooLarge);
         }
-        None
+        Ok(())
     }
 
     // Enters a node: its number, or why not.
@@ -50,33 +51,31 @@ impl Network {
         ensures answer { result ≡ add_node_answer (net_of self.old) prize }
         ensures after { net_of self.new ≡ add_node (net_of self.old) prize }
     {
-        if let Some(why) = self.node_refusal(prize) {
-            return Err(why);
-        }
+        self.check_node(prize)?;
         let number = self.prizes.len();
         self.prizes.push_reserved(prize);
         Ok(number)
     }
 
-    // What refuses an edge before its code is looked at.
-    fn edge_refusal(&self, first: usize, second: usize, cost: u64) -> Option<Refusal>
-        ensures { result ≡ before_code_refusal (net_of self.now) first second cost }
+    // Whether such an edge can be entered, before its code is looked at.
+    fn check_edge(&self, first: usize, second: usize, cost: u64) -> Result<(), Refusal>
+        ensures { result ≡ answer_of (before_code_refusal (net_of self.now) first second cost) tt }
     {
         let full = self.edges.len() >= MOST_EDGES;
         if full {
-            return Some(Refusal::EdgesFull);
+            return Err(Refusal::EdgesFull);
         }
         let costly = cost > MOST_AMOUNT;
         if costly {
-            return Some(Refusal::AmountTooLarge);
+            return Err(Refusal::AmountTooLarge);
         }
         if first >= self.prizes.len() || second >= self.prizes.len() {
-            return Some(Refusal::UnknownNode);
+            return Err(Refusal::UnknownNode);
         }
         if first == second {
-            return Some(Refusal::EqualEnds);
+            return Err(Refusal::EqualEnds);
         }
-        None
+        Ok(())
     }
 
     // Enters an edge of two entered nodes: its number, or why not.
@@ -90,12 +89,8 @@ impl Network {
         ensures answer { result ≡ add_edge_answer (net_of self.old) (link first second cost code.now) }
         ensures after { net_of self.new ≡ add_edge (net_of self.old) (link first second cost code.now) }
     {
-        if let Some(why) = self.edge_refusal(first, second, cost) {
-            return Err(why);
-        }
-        let Some(code) = Code::new(code) else {
-            return Err(Refusal::BadCode);
-        };
+        self.check_edge(first, second, cost)?;
+        let code = Code::new(code).ok_or(Refusal::BadCode)?;
         let number = self.edges.len();
         self.edges.push_reserved(Edge {
             first,

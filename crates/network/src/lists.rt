@@ -29,8 +29,8 @@ impl Network {
         ensures after { net_of self.new ≡ entered (map given entries.now) (net_of self.old) }
     {
         let mut taken = 0;
-        for i in 0..entries.len() {
-            let is_taken = self.enter(&entries[i]).is_ok();
+        for entry in entries {
+            let is_taken = self.enter(entry).is_ok();
             taken += is_taken as usize;
         }
         taken

@@ -4,8 +4,8 @@ use Rattle.network.specs.Networks.{net_of}
 use Rattle.network.proofs.network.Network.enter_all.Given as goal
 
 -- the entries that are left give the rest of the answer
-abbrev pub invariant-loop-i : goal.invariant-loop-i
-invariant-loop-i l =
-    (l.taken + taken_count (map given (drop l.i l.entries)) (net_of l.self) ≡ taken_count (map given l.entries) (net_of l.initial.self))
-    × (entered (map given (drop l.i l.entries)) (net_of l.self) ≡ entered (map given l.entries) (net_of l.initial.self))
-    × (l.taken ≤ l.i)
+abbrev pub invariant-loop-entry : goal.invariant-loop-entry
+invariant-loop-entry l =
+    (l.taken + taken_count (map given (drop l.entry-index l.entries)) (net_of l.self) ≡ taken_count (map given l.entries) (net_of l.initial.self))
+    × (entered (map given (drop l.entry-index l.entries)) (net_of l.self) ≡ entered (map given l.entries) (net_of l.initial.self))
+    × (l.taken ≤ l.entry-index)

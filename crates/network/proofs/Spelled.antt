@@ -1,0 +1,23 @@
+-- Going through a list answers whether every element passes.
+use Rattle.std.proofs.Common.{◌≡◌, ℕ, zero, suc, ◌<◌, Bool, true, false, ◌&&◌, List, [], ◌∷◌, length, get_or, refl, sym, arith, tests}
+use Rattle.std.specs.Bool.{MatchBool}
+use Rattle.std.specs.List.{AllWithin, HoldsAt}
+use Rattle.network.specs.Codes.{all}
+
+never : (b : Bool) → (b && false) ≡ false
+never true = refl
+never false = refl
+
+module _ {X : Type 0} (p : X → Bool) where
+  all_pass : (xs : List X) → ((k : ℕ) (d : X) → k < length xs → p (get_or xs k d) ≡ true) → all p xs ≡ true
+  all_pass [] h = refl
+  all_pass (x ∷ xs) h = let here = h 0 x (omega arith) in let rest = all_pass xs (λ k d l. h (suc k) d (omega arith)) in rw (here, rest) refl
+
+  one_fails : (xs : List X) (k : ℕ) → k < length xs → ((d : X) → p (get_or xs k d) ≡ false) → all p xs ≡ false
+  one_fails [] k l h = absurd (omega arith)
+  one_fails (x ∷ xs) zero l h = rw (h x) refl
+  one_fails (x ∷ xs) (suc k) l h = rw (one_fails xs k (omega arith) h) (never (p x))
+
+  pub all_decided : (xs : List X) (r : Bool) → MatchBool r (AllWithin (λ x. p x ≡ true) xs 0 (length xs)) ((k : ℕ) × (k < length xs) × HoldsAt (λ x. p x ≡ false) xs k) → r ≡ all p xs
+  all_decided xs true h = sym (all_pass xs (λ k d l. h k d (omega arith) l))
+  all_decided xs false h = sym (one_fails xs h.0 h.1 h.2)
