@@ -1,8 +1,11 @@
 -- Going through a list answers whether every element passes.
-use Rattle.std.proofs.Common.{◌≡◌, ℕ, zero, suc, ◌<◌, Bool, true, false, ◌&&◌, List, [], ◌∷◌, length, get_or, refl, sym, arith, tests}
+use Rattle.std.proofs.Common.{◌≡◌, ℕ, zero, suc, ◌<◌, Bool, true, false, ◌&&◌, List, [], ◌∷◌, length, get_or, refl, sym, arith}
 use Rattle.std.specs.Bool.{MatchBool}
 use Rattle.std.specs.List.{AllWithin, HoldsAt}
-use Rattle.network.specs.Codes.{all}
+use Rattle.std.specs.Str.{IsAscii}
+use Rattle.std.proofs.lemmas.Bool.{and_parts}
+use Rattle.std.proofs.lemmas.Bool.Decides.{nat_tests}
+use Rattle.network.specs.Codes.{all, is_code_byte}
 
 never : (b : Bool) → (b && false) ≡ false
 never true = refl
@@ -21,3 +24,9 @@ module _ {X : Type 0} (p : X → Bool) where
   pub all_decided : (xs : List X) (r : Bool) → MatchBool r (AllWithin (λ x. p x ≡ true) xs 0 (length xs)) ((k : ℕ) × (k < length xs) × HoldsAt (λ x. p x ≡ false) xs k) → r ≡ all p xs
   all_decided xs true h = sym (all_pass xs (λ k d l. h k d (omega arith) l))
   all_decided xs false h = sym (one_fails xs h.0 h.1 h.2)
+
+-- the bytes of a code are letters and digits, so they are a text
+pub code_is_text : (bs : List ℕ) → all is_code_byte bs ≡ true → IsAscii bs
+code_is_text [] h i = omega arith
+code_is_text (b ∷ bs) h zero = let p = and_parts (is_code_byte b) (all is_code_byte bs) h in grind (arith, nat_tests)
+code_is_text (b ∷ bs) h (suc i) = code_is_text bs (and_parts (is_code_byte b) (all is_code_byte bs) h).1 i

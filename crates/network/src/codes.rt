@@ -1,10 +1,11 @@
 // Making a code of its text, and reading it back.
-ghost use Rattle.std.specs.Prelude.{◌≡◌};
+ghost use Rattle.std.specs.Prelude.{◌≡◌, Some};
 ghost use Rattle.std.specs.Option.{option_map};
 ghost use Rattle.network.specs.Codes.{is_code_byte, is_code, code_from, padded_code};
 ghost use Rattle.network.specs.Edges.{text_of};
 
 use super::Code;
+use std::fmt;
 
 fn is_code_byte(b: u8) -> bool
     ensures { result ≡ is_code_byte b }
@@ -40,10 +41,26 @@ impl Code {
         &self.bytes[0..self.len]
     }
 
+    pub fn as_str(&self) -> &str
+        ensures { result.now ≡ text_of self.now }
+    {
+        // Letters and digits are always a text.
+        str::from_utf8(self.text()).unwrap_or("")
+    }
+
     // The text with 0 behind it, up to 8 bytes: in this form codes compare byte by byte.
     pub fn padded(&self) -> [u8; 8]
         ensures { result ≡ padded_code (text_of self.now) }
     {
         self.bytes
+    }
+}
+
+// The text, as sheets and reports have it.
+impl fmt::Display for Code {
+    ghost output = { λ c. Some (text_of c) };
+
+    fn fmt<W: fmt::Write>(&self, f: &mut fmt::Formatter<W>) -> fmt::Result {
+        f.write_str(self.as_str())
     }
 }

@@ -32,8 +32,9 @@ invariant_of-result c =
     let text = c.args.text.now in
     let wrote = c.copy_from_slice.new.self in
     let is = c.copy_from_slice.ensures.after in
-    let l = short text (sym c.if-not-is_code.ensures) in
-    record { whole = whole text wrote is l; within = l; padded = padded text wrote is l }
+    let e = sym c.if-not-is_code.ensures in
+    let l = short text e in
+    record { whole = whole text wrote is l; within = l; spelled = ap is_code (kept text wrote is l) ∙ e; padded = padded text wrote is l }
 
 pub returns : goal.returns
 returns c =
