@@ -1,3 +1,4 @@
 pub mod Sorts
 pub mod Collecting
 pub mod Works
+mod Orders
