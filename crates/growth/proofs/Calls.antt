@@ -5,55 +5,58 @@ use Rattle.theory.specs.Growth.{State, active_count, ended, unless_ended, advanc
 use Rattle.theory.proofs.Laws.{formed_by_number}
 use Rattle.growth.specs.Events.{growing}
 use Rattle.growth.specs.Shown.{ShowsAll}
-use Rattle.growth.specs.Grown.{network_of, steps_of, state_of, Sound, next_due}
+use Rattle.network.specs.Nets.{Net, valid}
+use Rattle.growth.specs.Grown.{Sound, next_due}
 use Rattle.growth.specs.Refreshed.{dues_after, Refreshed}
-use Rattle.growth.specs.declared.engine.Growth.{Growth}
 use Rattle.growth.specs.declared.tables.Tables.{Tables}
 use Rattle.growth.proofs.Counting.{growing_count}
 use Rattle.growth.proofs.Advancing as Advancing
 use Rattle.growth.proofs.Advancing.{one_more, up_to_date}
 
-module _ {Q : Type 0} (table : Q → List (Option ℕ)) (g : Growth Q) (sound : Sound table g) where
-  pub active_is : growing g.tables.family.clusters ≡ active_count (state_of g)
-  active_is = growing_count (network_of g) g.tables (state_of g) (formed_by_number (network_of g) sound.entered (steps_of g)) sound.shown
+-- nothing is due once growth has ended, and then a step changes nothing
+pub idle_state : (net : Net) (st : State) → None ≡ next_due net st → st ≡ step net st
+idle_state net st none = by (ended st) refl
+  where
+    by : (b : Bool) → ended st ≡ b → st ≡ step net st
+    by true e = sym (ap (λ b. unless_ended b net st) e)
+    by false e = sym (ap (λ b. unless_ended b net st) e ∙ ap (advance net st) (sym (none ∙ ap (λ b. cond b None (earliest (due_times net st.time st.slots))) e)))
 
-  -- nothing is due once growth has ended, and then a step changes nothing
-  pub idle_state : None ≡ next_due (network_of g) (state_of g) → state_of g ≡ step (network_of g) (state_of g)
-  idle_state none = by (ended (state_of g)) refl
-    where
-      by : (b : Bool) → ended (state_of g) ≡ b → state_of g ≡ step (network_of g) (state_of g)
-      by true e = sym (ap (λ b. unless_ended b (network_of g) (state_of g)) e)
-      by false e = sym (ap (λ b. unless_ended b (network_of g) (state_of g)) e ∙ ap (advance (network_of g) (state_of g)) (sym (none ∙ ap (λ b. cond b None (earliest (dues_after (network_of g) (steps_of g)))) e)))
+module _ (net : Net) (v : valid net ≡ true) (t : Tables) (table : List (Option ℕ)) (sound : Sound net t table) where
+  abbrev st : State
+  st = grow net t.steps
 
-  module _ (to number : ℕ) (due : Some (to, number) ≡ next_due (network_of g) (state_of g)) where
-    pub going : ended (state_of g) ≡ false
-    going = by (ended (state_of g)) refl
+  pub active_is : growing t.family.clusters ≡ active_count st
+  active_is = growing_count net t st (formed_by_number net v t.steps) sound.shown
+
+  module _ (to number : ℕ) (due : Some (to, number) ≡ next_due net st) where
+    pub going : ended st ≡ false
+    going = by (ended st) refl
       where
-        by : (b : Bool) → ended (state_of g) ≡ b → ended (state_of g) ≡ false
-        by true e = let z : ◌≡◌ {A = Option (ℕ × ℕ)} (Some (to, number)) None = due ∙ ap (λ b. cond b None (earliest (dues_after (network_of g) (steps_of g)))) e in absurd (never z)
+        by : (b : Bool) → ended st ≡ b → ended st ≡ false
+        by true e = let z : ◌≡◌ {A = Option (ℕ × ℕ)} (Some (to, number)) None = due ∙ ap (λ b. cond b None (earliest (dues_after net t.steps))) e in absurd (never z)
           where
             never : ◌≡◌ {A = Option (ℕ × ℕ)} (Some (to, number)) None → ⊥
             never z = let n : ◌≡◌ {A = ℕ} 0 1 = cc in omega arith
         by false e = e
 
-    pub first_is : earliest (dues_after (network_of g) (steps_of g)) ≡ Some (to, number)
-    first_is = sym (due ∙ ap (λ b. cond b None (earliest (dues_after (network_of g) (steps_of g)))) going)
+    pub first_is : earliest (dues_after net t.steps) ≡ Some (to, number)
+    first_is = sym (due ∙ ap (λ b. cond b None (earliest (dues_after net t.steps))) going)
 
-    module _ (m : Tables) (shows : ShowsAll (network_of g) m (step (network_of g) (state_of g))) where
+    module _ (m : Tables) (shows : ShowsAll net m (step net st)) where
       pub some_formed : 1 ≤ m.family.formed
-      some_formed = Advancing.some_formed (network_of g) sound.entered (steps_of g) to number going first_is m shows
+      some_formed = Advancing.some_formed net v t.steps to number going first_is m shows
 
       -- the steps say how far it has grown
-      pub next_state : grow (network_of g) m.steps ≡ step (network_of g) (state_of g)
-      next_state = ap (grow (network_of g)) (one_more (network_of g) sound.entered (steps_of g) to number going first_is m shows ∙ ap (λ x. x + 1) (sym sound.shown.shown.steps) ∙ add-one (steps_of g))
+      pub next_state : grow net m.steps ≡ step net st
+      next_state = ap (grow net) (one_more net v t.steps to number going first_is m shows ∙ ap (λ x. x + 1) (sym sound.shown.shown.steps) ∙ add-one t.steps)
 
-      pub next_shown : ShowsAll (network_of g) m (grow (network_of g) m.steps)
-      next_shown = subst (ShowsAll (network_of g) m) (sym next_state) shows
+      pub next_shown : ShowsAll net m (grow net m.steps)
+      next_shown = subst (ShowsAll net m) (sym next_state) shows
 
-      pub next_queue : (q : Q) → Refreshed (network_of g) m number (dues_after (network_of g) m.steps) (table g.queue) (table q) → table q ≡ dues_after (network_of g) m.steps
-      next_queue q fresh =
-          let same : dues_after (network_of g) m.steps ≡ _ = ap dues next_state in
-          up_to_date (network_of g) sound.entered (steps_of g) to number going first_is m shows (table g.queue) (table q) sound.due (subst (λ d. Refreshed (network_of g) m number d (table g.queue) (table q)) same fresh) ∙ sym same
+      pub next_queue : (u : List (Option ℕ)) → Refreshed net m number (dues_after net m.steps) table u → u ≡ dues_after net m.steps
+      next_queue u fresh =
+          let same : dues_after net m.steps ≡ _ = ap dues next_state in
+          up_to_date net v t.steps to number going first_is m shows table u sound.due (subst (λ d. Refreshed net m number d table u) same fresh) ∙ sym same
         where
           dues : State → List (Option ℕ)
-          dues st = due_times (network_of g) st.time st.slots
+          dues s = due_times net s.time s.slots

@@ -3,32 +3,34 @@ use Rattle.std.specs.Prelude.{◌≡◌, ℕ, ◌-◌, true, cond, List, Some, N
 use Rattle.refusal.specs.declared.Refusal.{Refusal}
 use Rattle.refusal.specs.declared.Refusal.TheVariants.{GrowthEnded}
 use Rattle.network.specs.Nets.{Net, valid}
-use Rattle.network.specs.Networks.{net_of}
 use Rattle.theory.specs.Due.{earliest, due_times}
 use Rattle.theory.specs.Growth.{State, ended, grow}
 use Rattle.growth.specs.Shown.{Shown}
 use Rattle.growth.specs.Refreshed.{dues_shown}
 use Rattle.growth.specs.declared.event.Event.{Event}
 use Rattle.growth.specs.declared.event.Event.TheVariants.{Deactivated, Merged}
-use Rattle.growth.specs.declared.engine.Growth.{Growth}
+use Rattle.growth.specs.declared.tables.Tables.{Tables}
 
--- the network as entered
-abbrev pub network_of : {Q : Type 0} → Growth Q → Net
-network_of g = net_of g.network
+-- a valid network, as entered, and the steps accepted so far
+pub record Grown : Type 0 where
+  pub network : Net
+  pub entered : valid network ≡ true
+  pub steps : ℕ
 
--- the steps accepted so far
-abbrev pub steps_of : {Q : Type 0} → Growth Q → ℕ
-steps_of g = g.tables.steps
+abbrev pub network_of : Grown → Net
+network_of g = g.network
+
+abbrev pub steps_of : Grown → ℕ
+steps_of g = g.steps
 
 -- the state of growth after these steps
-abbrev pub state_of : {Q : Type 0} → Growth Q → State
+abbrev pub state_of : Grown → State
 state_of g = grow (network_of g) (steps_of g)
 
--- the network is valid, the tables show the state that so many steps give, and the queue's table has its due times and no others
-pub record Sound {Q : Type 0} (table : Q → List (Option ℕ)) (g : Growth Q) : Type 0 where
-  pub entered : valid (network_of g) ≡ true
-  pub shown : Shown (network_of g) g.tables
-  pub due : table g.queue ≡ dues_shown (network_of g) g.tables
+-- the tables show the state that so many steps give, and the queue's table has its due times and no others
+pub record Sound (net : Net) (t : Tables) (table : List (Option ℕ)) : Type 0 where
+  pub shown : Shown net t
+  pub due : table ≡ dues_shown net t
 
 -- what a step takes: what is due first, and nothing once growth has ended
 abbrev pub next_due : Net → State → Option (ℕ × ℕ)

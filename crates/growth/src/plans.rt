@@ -3,7 +3,7 @@ ghost use Rattle.std.specs.Prelude.{◌≡◌};
 ghost use Rattle.theory.specs.Laws.{Laws};
 ghost use Rattle.theory.specs.Prune.{plan};
 ghost use Rattle.theory.specs.Strong.{strong_plan};
-ghost use Rattle.growth.specs.Grown.{network_of, steps_of, state_of, Sound};
+ghost use Rattle.growth.specs.Grown.{network_of, steps_of, state_of};
 ghost use Rattle.growth.specs.Plans.{no_plan, plan_answer, nodes_written, edges_written};
 
 use crate::Growth;
@@ -14,7 +14,6 @@ use refusal::Refusal;
 impl<Q: EventQueue> Growth<Q> {
     // Why there is no plan: the network has no node, or two maximal clusters are still active.
     fn no_plan(&self) -> Option<Refusal>
-        requires { Sound Q.EventQueue.table self.now }
         ensures { result ≡ no_plan (network_of self.now) (state_of self.now) }
     {
         let empty = self.network.prizes().len() == 0;
@@ -30,7 +29,6 @@ impl<Q: EventQueue> Growth<Q> {
     // The plan: what pruning leaves of the grown tree. Writes 1 or 0 for each node and each edge to the front of the two lists, and answers for it.
     // Refused without a node, while two maximal clusters are active, or if a list is shorter than the nodes or the edges; nothing is written then.
     pub fn prune(&self, nodes_out: &mut [u8], edges_out: &mut [u8]) -> Result<Answer, Refusal>
-        requires { Sound Q.EventQueue.table self.now }
         ensures answer { result ≡ plan_answer (network_of self.now) (state_of self.now) (plan (network_of self.now) (state_of self.now)) nodes_out.old edges_out.old }
         ensures nodes { nodes_out.new ≡ nodes_written (network_of self.now) (state_of self.now) (plan (network_of self.now) (state_of self.now)) nodes_out.old edges_out.old }
         ensures edges { edges_out.new ≡ edges_written (network_of self.now) (state_of self.now) (plan (network_of self.now) (state_of self.now)) nodes_out.old edges_out.old }
@@ -57,7 +55,6 @@ impl<Q: EventQueue> Growth<Q> {
         nodes_out: &mut [u8],
         edges_out: &mut [u8],
     ) -> Result<Answer, Refusal>
-        requires { Sound Q.EventQueue.table self.now }
         ensures answer { result ≡ plan_answer (network_of self.now) (state_of self.now) (strong_plan (network_of self.now) (state_of self.now)) nodes_out.old edges_out.old }
         ensures nodes { nodes_out.new ≡ nodes_written (network_of self.now) (state_of self.now) (strong_plan (network_of self.now) (state_of self.now)) nodes_out.old edges_out.old }
         ensures edges { edges_out.new ≡ edges_written (network_of self.now) (state_of self.now) (strong_plan (network_of self.now) (state_of self.now)) nodes_out.old edges_out.old }

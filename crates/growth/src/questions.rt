@@ -5,7 +5,7 @@ ghost use Rattle.theory.specs.Growth.{active_count, ended, total, lower_bound};
 ghost use Rattle.theory.specs.Laws.{EveryTreeAtLeast};
 ghost use Rattle.theory.specs.Prune.{chosen};
 ghost use Rattle.growth.specs.Asked.{cluster_answer};
-ghost use Rattle.growth.specs.Grown.{network_of, steps_of, state_of, Sound};
+ghost use Rattle.growth.specs.Grown.{network_of, steps_of, state_of};
 
 use crate::{Growth, Standing, Tables};
 use network::Network;
@@ -32,7 +32,6 @@ impl<Q: EventQueue> Growth<Q> {
 
     // How long growth has run, in half units.
     pub fn time(&self) -> u64
-        requires { Sound Q.EventQueue.table self.now }
         ensures { result ≡ (state_of self.now).time }
     {
         self.tables.time
@@ -40,7 +39,6 @@ impl<Q: EventQueue> Growth<Q> {
 
     // How many maximal clusters are active.
     pub fn active(&self) -> usize
-        requires { Sound Q.EventQueue.table self.now }
         ensures { result ≡ active_count (state_of self.now) }
     {
         self.tables.family.growing()
@@ -48,7 +46,6 @@ impl<Q: EventQueue> Growth<Q> {
 
     // Whether growth has ended: fewer than two maximal clusters are active.
     pub fn has_ended(&self) -> bool
-        requires { Sound Q.EventQueue.table self.now }
         ensures { result ≡ ended (state_of self.now) }
     {
         self.active() < 2
@@ -56,7 +53,6 @@ impl<Q: EventQueue> Growth<Q> {
 
     // How many steps were accepted.
     pub fn steps(&self) -> usize
-        requires { Sound Q.EventQueue.table self.now }
         ensures { result ≡ (state_of self.now).steps }
     {
         self.tables.steps
@@ -64,7 +60,6 @@ impl<Q: EventQueue> Growth<Q> {
 
     // The total of all moats, in half units.
     pub fn total(&self) -> u64
-        requires { Sound Q.EventQueue.table self.now }
         ensures { result ≡ total (state_of self.now) }
     {
         self.tables.total
@@ -72,7 +67,6 @@ impl<Q: EventQueue> Growth<Q> {
 
     // What no tree's cost with lost prizes, doubled, is below.
     pub fn lower_bound(&self) -> u64
-        requires { Sound Q.EventQueue.table self.now }
         ensures answer { result ≡ lower_bound (state_of self.now) }
         ensures law { EveryTreeAtLeast (network_of self.now) (steps_of self.now) }
     {
@@ -81,7 +75,6 @@ impl<Q: EventQueue> Growth<Q> {
 
     // A cluster's parts, state and moat; refused if it is not formed.
     pub fn cluster(&self, c: usize) -> Result<Standing, Refusal>
-        requires { Sound Q.EventQueue.table self.now }
         ensures { result ≡ cluster_answer (state_of self.now) c }
     {
         if c >= self.tables.family.formed {
@@ -97,12 +90,12 @@ impl<Q: EventQueue> Growth<Q> {
 
     // Whether an edge is chosen; one that is not entered is not.
     pub fn is_chosen(&self, s: usize) -> bool
-        requires { Sound Q.EventQueue.table self.now }
         ensures { result ≡ chosen (state_of self.now).slots s }
     {
-        if s >= 1024 {
-            return false;
-        }
-        self.tables.chosen.marks[s] == 1
+        self.tables
+            .chosen
+            .marks
+            .get(s)
+            .is_some_and(|mark| *mark == 1)
     }
 }

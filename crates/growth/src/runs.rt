@@ -6,7 +6,7 @@ ghost use Rattle.network.specs.Networks.{net_of};
 ghost use Rattle.theory.specs.Growth.{ended, grow};
 ghost use Rattle.theory.specs.Laws.{Laws};
 ghost use Rattle.theory.specs.Nets.{node_count};
-ghost use Rattle.growth.specs.Grown.{network_of, steps_of, state_of, Sound};
+ghost use Rattle.growth.specs.Grown.{network_of, steps_of, state_of};
 
 use crate::Growth;
 use network::{Entry, Network};
@@ -32,10 +32,8 @@ fn most_steps(network: &Network) -> usize
 impl<Q: EventQueue> Growth<Q> {
     // So many steps, or as many as are accepted.
     pub fn grow(&mut self, steps: usize)
-        requires { Sound Q.EventQueue.table self.old }
         ensures network { network_of self.new ≡ network_of self.old }
         ensures state { state_of self.new ≡ grow (network_of self.old) (steps_of self.old + steps) }
-        ensures sound { Sound Q.EventQueue.table self.new }
         ensures laws { Laws (network_of self.new) (steps_of self.new) }
     {
         for _ in 0..steps {
@@ -48,11 +46,9 @@ impl<Q: EventQueue> Growth<Q> {
 
     // Steps until growth has ended.
     pub fn grow_to_end(&mut self)
-        requires { Sound Q.EventQueue.table self.old }
         ensures network { network_of self.new ≡ network_of self.old }
         ensures state { state_of self.new ≡ grow (network_of self.old) (2 * node_count (network_of self.old)) }
         ensures ended { ended (state_of self.new) ≡ true }
-        ensures sound { Sound Q.EventQueue.table self.new }
         ensures laws { Laws (network_of self.new) (steps_of self.new) }
     {
         let most = most_steps(&self.network);
@@ -64,7 +60,6 @@ impl<Q: EventQueue> Growth<Q> {
 pub fn run<Q: EventQueue>(network: Network, entries: &[Entry], queue: Q, steps: usize) -> Growth<Q>
     ensures network { network_of result ≡ entered (map given entries.now) empty_net }
     ensures state { state_of result ≡ grow (network_of result) steps }
-    ensures sound { Sound Q.EventQueue.table result }
     ensures laws { Laws (network_of result) steps }
 {
     let mut growth = Growth::start(entered_anew(network, entries), queue);

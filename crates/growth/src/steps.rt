@@ -3,7 +3,7 @@ ghost use Rattle.std.specs.Prelude.{◌≡◌};
 ghost use Rattle.network.specs.Networks.{net_of};
 ghost use Rattle.theory.specs.Growth.{start, step};
 ghost use Rattle.theory.specs.Laws.{Laws};
-ghost use Rattle.growth.specs.Grown.{network_of, steps_of, state_of, Sound, next_due, event_of, taken_answer, step_answer};
+ghost use Rattle.growth.specs.Grown.{network_of, steps_of, state_of, next_due, event_of, taken_answer, step_answer};
 
 use crate::refresh::{fill, refresh};
 use crate::{Event, Growth, Tables};
@@ -37,7 +37,6 @@ impl<Q: EventQueue> Growth<Q> {
         ensures network { network_of result ≡ net_of network }
         ensures state { state_of result ≡ start (net_of network) }
         ensures steps { steps_of result ≡ 0 }
-        ensures sound { Sound Q.EventQueue.table result }
         ensures laws { Laws (network_of result) (steps_of result) }
     {
         let mut queue = queue;
@@ -52,7 +51,6 @@ impl<Q: EventQueue> Growth<Q> {
 
     // What a step takes: nothing once growth has ended.
     fn next_due(&self) -> Option<(u64, usize)>
-        requires { Sound Q.EventQueue.table self.now }
         ensures { result ≡ next_due (network_of self.now) (state_of self.now) }
     {
         if self.has_ended() {
@@ -63,11 +61,9 @@ impl<Q: EventQueue> Growth<Q> {
 
     // What is due happens, and the queue follows; nothing happens where nothing is due.
     fn advance(&mut self, due: Option<(u64, usize)>)
-        requires sound { Sound Q.EventQueue.table self.old }
         requires due { due ≡ next_due (network_of self.old) (state_of self.old) }
         ensures network { network_of self.new ≡ network_of self.old }
         ensures state { state_of self.new ≡ step (network_of self.old) (state_of self.old) }
-        ensures sound { Sound Q.EventQueue.table self.new }
         ensures laws { Laws (network_of self.new) (steps_of self.new) }
     {
         let Some((time, number)) = due else {
@@ -79,11 +75,9 @@ impl<Q: EventQueue> Growth<Q> {
 
     // One step: what is due first happens. Refused while fewer than two maximal clusters are active, and nothing is changed then.
     pub fn step(&mut self) -> Result<Event, Refusal>
-        requires { Sound Q.EventQueue.table self.old }
         ensures answer { result ≡ step_answer (network_of self.old) (state_of self.old) }
         ensures network { network_of self.new ≡ network_of self.old }
         ensures state { state_of self.new ≡ step (network_of self.old) (state_of self.old) }
-        ensures sound { Sound Q.EventQueue.table self.new }
         ensures laws { Laws (network_of self.new) (steps_of self.new) }
     {
         let due = self.next_due();

@@ -1,6 +1,4 @@
 // Networks grown to the end on both queues, with all that they answer then.
-ghost use Rattle.growth.specs.Grown.{Sound};
-
 use growth::{Growth, Phase, Standing};
 use network::Network;
 use pruning::Answer;
@@ -74,7 +72,6 @@ fn fold_cluster(sum: u64, cluster: Result<Standing, Refusal>) -> u64 {
 }
 
 fn fold_clusters<Q: EventQueue>(growth: &Growth<Q>) -> u64
-    requires { Sound Q.EventQueue.table growth.now }
 {
     let mut sum = 0;
     for c in 0..511usize {
@@ -84,7 +81,6 @@ fn fold_clusters<Q: EventQueue>(growth: &Growth<Q>) -> u64
 }
 
 fn fold_chosen<Q: EventQueue>(growth: &Growth<Q>) -> u64
-    requires { Sound Q.EventQueue.table growth.now }
 {
     let mut sum = 0;
     for s in 0..growth.network().edges().len() {
@@ -94,7 +90,6 @@ fn fold_chosen<Q: EventQueue>(growth: &Growth<Q>) -> u64
 }
 
 pub(crate) fn outcome_of<Q: EventQueue>(growth: &Growth<Q>) -> Result<Outcome, Fail>
-    requires { Sound Q.EventQueue.table growth.now }
 {
     let mut plan = UNWRITTEN;
     let mut strong = UNWRITTEN;

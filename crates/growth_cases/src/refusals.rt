@@ -1,6 +1,4 @@
 // Calls that are refused: nothing is written then, and nothing is changed.
-ghost use Rattle.growth.specs.Grown.{Sound};
-
 use crate::chain::CHAIN;
 use crate::outcomes::BLANK;
 use crate::rows::{answer, load};
@@ -20,7 +18,6 @@ fn refuses_both<Q: EventQueue>(
     edges: &mut [u8],
     why: Refusal,
 ) -> Result<(), Fail>
-    requires { Sound Q.EventQueue.table growth.now }
 {
     assert_eq!(rt; growth.prune(nodes, edges), Err(why));
     assert_eq!(rt; growth.strong_prune(nodes, edges), Err(why));
@@ -35,7 +32,6 @@ fn check_refused<Q: EventQueue>(
     edges: usize,
     why: Refusal,
 ) -> Result<(), Fail>
-    requires { Sound Q.EventQueue.table growth.now }
 {
     let mut node_list = [9u8; 8];
     let mut edge_list = [9u8; 8];
@@ -58,7 +54,6 @@ fn check_all_refused<Q: EventQueue>(
     lengths: &[(usize, usize)],
     why: Refusal,
 ) -> Result<(), Fail>
-    requires { Sound Q.EventQueue.table growth.now }
 {
     for i in 0..lengths.len() {
         check_refused(rt, growth, lengths[i].0, lengths[i].1, why)?;
@@ -68,7 +63,6 @@ fn check_all_refused<Q: EventQueue>(
 
 // Lists that are just long enough are written whole, longer ones only at the front.
 fn check_taken<Q: EventQueue>(rt: &impl Abort, growth: &Growth<Q>) -> Result<(), Fail>
-    requires { Sound Q.EventQueue.table growth.now }
 {
     let mut nodes = [9u8; 7];
     let mut edges = [9u8; 6];
@@ -90,8 +84,6 @@ fn refuses_step<Q: EventQueue>(
     growth: &mut Growth<Q>,
     steps: usize,
 ) -> Result<(), Fail>
-    requires { Sound Q.EventQueue.table growth.old }
-    ensures { Sound Q.EventQueue.table growth.new }
 {
     let step = growth.step();
     assert_eq!(rt; step, Err(Refusal::GrowthEnded));

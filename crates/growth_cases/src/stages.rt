@@ -1,6 +1,4 @@
 // Growth step by step: what each step answers, and what is asked after it.
-ghost use Rattle.growth.specs.Grown.{Sound};
-
 use growth::{Event, Growth, Phase, Standing};
 use queue::EventQueue;
 use refusal::Refusal;
@@ -23,7 +21,6 @@ fn check_asked<Q: EventQueue>(
     growth: &Growth<Q>,
     stage: &Stage,
 ) -> Result<(), Fail>
-    requires { Sound Q.EventQueue.table growth.now }
 {
     let times = (growth.time(), growth.total(), growth.lower_bound());
     assert_eq!(rt; times, (stage.time, stage.total, stage.bound));
@@ -37,8 +34,6 @@ fn check_stage<Q: EventQueue>(
     growth: &mut Growth<Q>,
     stage: &Stage,
 ) -> Result<(), Fail>
-    requires { Sound Q.EventQueue.table growth.old }
-    ensures { Sound Q.EventQueue.table growth.new }
 {
     let event = growth.step();
     assert_eq!(rt; event, Ok(stage.event));
@@ -50,8 +45,6 @@ pub(crate) fn check_stages<Q: EventQueue>(
     growth: &mut Growth<Q>,
     stages: &[Stage],
 ) -> Result<(), Fail>
-    requires { Sound Q.EventQueue.table growth.old }
-    ensures { Sound Q.EventQueue.table growth.new }
 {
     for i in 0..stages.len() {
         check_stage(rt, growth, &stages[i])?;
@@ -65,8 +58,6 @@ pub(crate) fn check_ended<Q: EventQueue>(
     growth: &mut Growth<Q>,
     last: &Stage,
 ) -> Result<(), Fail>
-    requires { Sound Q.EventQueue.table growth.old }
-    ensures { Sound Q.EventQueue.table growth.new }
 {
     let refused = growth.step();
     assert_eq!(rt; refused, Err(Refusal::GrowthEnded));
@@ -79,7 +70,6 @@ pub(crate) fn check_clusters<Q: EventQueue>(
     growth: &Growth<Q>,
     clusters: &[(Option<(usize, usize)>, Phase, u64)],
 ) -> Result<(), Fail>
-    requires { Sound Q.EventQueue.table growth.now }
 {
     for c in 0..clusters.len() {
         let (parts, phase, moat) = clusters[c];
@@ -99,7 +89,6 @@ pub(crate) fn check_chosen<Q: EventQueue>(
     growth: &Growth<Q>,
     chosen: &[bool],
 ) -> Result<(), Fail>
-    requires { Sound Q.EventQueue.table growth.now }
 {
     for s in 0..chosen.len() {
         assert_eq!(rt; growth.is_chosen(s), chosen[s]);

@@ -1,6 +1,4 @@
 // The chain of five nodes, grown step by step, with questions asked between.
-ghost use Rattle.growth.specs.Grown.{Sound};
-
 use crate::chain::{AFTER_FIRST, AT_END, CHAIN, FIRST, THEN};
 use crate::outcomes::BLANK;
 use crate::rows::load;
@@ -13,8 +11,6 @@ use std::process::Abort;
 use std::test::*;
 
 fn play_first<Q: EventQueue>(rt: &impl Abort, growth: &mut Growth<Q>) -> Result<(), Fail>
-    requires { Sound Q.EventQueue.table growth.old }
-    ensures { Sound Q.EventQueue.table growth.new }
 {
     check_clusters(rt, growth, &[(None, Active, 0); 5])?;
     check_stages(rt, growth, &FIRST)?;
@@ -23,7 +19,6 @@ fn play_first<Q: EventQueue>(rt: &impl Abort, growth: &mut Growth<Q>) -> Result<
 }
 
 fn play_then<Q: EventQueue>(rt: &impl Abort, growth: &mut Growth<Q>) -> Result<(), Fail>
-    requires { Sound Q.EventQueue.table growth.old }
 {
     check_stages(rt, growth, &THEN)?;
     check_ended(rt, growth, &THEN[2])?;

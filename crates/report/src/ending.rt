@@ -5,7 +5,7 @@ ghost use Rattle.theory.specs.Growth.{ended};
 ghost use Rattle.theory.specs.Laws.{Laws};
 ghost use Rattle.theory.specs.Prune.{plan};
 ghost use Rattle.theory.specs.Strong.{strong_plan};
-ghost use Rattle.growth.specs.Grown.{network_of, steps_of, state_of, Sound};
+ghost use Rattle.growth.specs.Grown.{network_of, steps_of, state_of};
 ghost use Rattle.report.specs.Reports.{grown, with_marks, kept_answer, report_answer};
 
 use crate::{Kept, Report};
@@ -34,7 +34,6 @@ fn with_marks(
 }
 
 fn kept_plan<Q: EventQueue>(growth: &Growth<Q>) -> Result<Kept, Refusal>
-    requires sound { Sound Q.EventQueue.table growth.now }
     requires over { ended (state_of growth.now) ≡ true }
     ensures { result ≡ kept_answer (network_of growth.now) (plan (network_of growth.now) (state_of growth.now)) }
 {
@@ -45,7 +44,6 @@ fn kept_plan<Q: EventQueue>(growth: &Growth<Q>) -> Result<Kept, Refusal>
 }
 
 fn kept_strong_plan<Q: EventQueue>(growth: &Growth<Q>) -> Result<Kept, Refusal>
-    requires sound { Sound Q.EventQueue.table growth.now }
     requires over { ended (state_of growth.now) ≡ true }
     ensures { result ≡ kept_answer (network_of growth.now) (strong_plan (network_of growth.now) (state_of growth.now)) }
 {
@@ -57,11 +55,9 @@ fn kept_strong_plan<Q: EventQueue>(growth: &Growth<Q>) -> Result<Kept, Refusal>
 
 // Grows to the end and answers with both plans; refused without a node.
 fn final_report<Q: EventQueue>(growth: &mut Growth<Q>) -> Result<Report, Refusal>
-    requires { Sound Q.EventQueue.table growth.old }
     ensures answer { result ≡ report_answer (network_of growth.old) }
     ensures network { network_of growth.new ≡ network_of growth.old }
     ensures state { state_of growth.new ≡ grown (network_of growth.old) }
-    ensures sound { Sound Q.EventQueue.table growth.new }
     ensures laws { Laws (network_of growth.new) (steps_of growth.new) }
 {
     growth.grow_to_end();
@@ -83,7 +79,6 @@ pub fn plan_network<Q: EventQueue>(
     ensures answer { result.1 ≡ report_answer (net_of network) }
     ensures network { network_of result.0 ≡ net_of network }
     ensures state { state_of result.0 ≡ grown (net_of network) }
-    ensures sound { Sound Q.EventQueue.table result.0 }
     ensures laws { Laws (network_of result.0) (steps_of result.0) }
 {
     let mut growth = Growth::start(network, queue);

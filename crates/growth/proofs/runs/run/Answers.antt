@@ -12,6 +12,5 @@ returns g c =
     record {
       network = h.network ∙ first.network ∙ c.entered_anew.ensures;
       state = h.state ∙ λ i. grow (sym h.network i) (all i);
-      sound = h.sound;
-      laws = laws_hold (network_of c.grow.new.self) h.sound.entered c.args.steps;
+      laws = laws_hold (network_of c.grow.new.self) c.grow.new.self.entered c.args.steps;
     }

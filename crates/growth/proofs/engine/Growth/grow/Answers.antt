@@ -1,6 +1,5 @@
 use Rattle.std.proofs.Common.{◌≡◌, ℕ, suc, ◌+◌, true, sym, refl, ap, ◌∙◌, arith}
 use Rattle.network.specs.Nets.{Net}
-use Rattle.network.specs.Networks.{net_of}
 use Rattle.theory.specs.Growth.{State, ended, step, grow}
 use Rattle.theory.proofs.Laws.{laws_hold}
 use Rattle.growth.specs.Grown.{network_of, steps_of, state_of}
@@ -10,14 +9,8 @@ use Rattle.growth.proofs.engine.Growth.grow.Goals as goal
 pub loop-init : goal.loop-init
 loop-init g c =
     let s = c.args.self.now in
-    let none : s.tables.steps ≡ s.tables.steps + 0 = omega arith in
-    (c.requires, refl, ap (grow (net_of s.network)) none)
-
-pub has_ended-requires : goal.has_ended-requires
-has_ended-requires g c = c.loop.invariant.0
-
-pub step-requires : goal.step-requires
-step-requires g c = c.loop.invariant.0
+    let none : s.steps ≡ s.steps + 0 = omega arith in
+    (refl, ap (grow s.network) none)
 
 -- a step further from the same network
 further : (net next : Net) (k i : ℕ) (st after : State) → next ≡ net → st ≡ grow net (k + i) → after ≡ step next st → after ≡ grow net (k + (i + 1))
@@ -29,7 +22,7 @@ pub loop-preserved : goal.loop-preserved
 loop-preserved g c =
     let s = c.args.self.now in
     let h = c.step.ensures in
-    (h.sound, h.network ∙ c.loop.invariant.1, further (network_of s) (network_of c.loop.self) (steps_of s) c.loop.counter (state_of c.loop.self) (state_of c.step.new.self) c.loop.invariant.1 c.loop.invariant.2 h.state)
+    (h.network ∙ c.loop.invariant.0, further (network_of s) (network_of c.loop.self) (steps_of s) c.loop.counter (state_of c.loop.self) (state_of c.step.new.self) c.loop.invariant.0 c.loop.invariant.1 h.state)
 
 pub returns-then-has_ended : goal.returns-then-has_ended
 returns-then-has_ended g c =
@@ -37,12 +30,11 @@ returns-then-has_ended g c =
     let net = network_of s in
     let l = c.loop.self in
     let left = c.loop-test.true in
-    let over : ended (grow net (steps_of s + c.loop.counter)) ≡ true = sym (ap ended c.loop.invariant.2) ∙ sym c.has_ended.ensures ∙ c.if-has_ended.true in
+    let over : ended (grow net (steps_of s + c.loop.counter)) ≡ true = sym (ap ended c.loop.invariant.1) ∙ sym c.has_ended.ensures ∙ c.if-has_ended.true in
     record {
-      network = c.loop.invariant.1;
-      state = c.loop.invariant.2 ∙ sym (still net (steps_of s + c.loop.counter) over (steps_of s + c.args.steps) (omega arith));
-      sound = c.loop.invariant.0;
-      laws = laws_hold (network_of l) c.loop.invariant.0.entered (steps_of l);
+      network = c.loop.invariant.0;
+      state = c.loop.invariant.1 ∙ sym (still net (steps_of s + c.loop.counter) over (steps_of s + c.args.steps) (omega arith));
+      laws = laws_hold (network_of l) l.entered (steps_of l);
     }
 
 pub returns : goal.returns
@@ -51,8 +43,7 @@ returns g c =
     let l = c.loop.self in
     let all : steps_of s + c.loop.counter ≡ steps_of s + c.args.steps = omega arith in
     record {
-      network = c.loop.invariant.1;
-      state = c.loop.invariant.2 ∙ ap (grow (network_of s)) all;
-      sound = c.loop.invariant.0;
-      laws = laws_hold (network_of l) c.loop.invariant.0.entered (steps_of l);
+      network = c.loop.invariant.0;
+      state = c.loop.invariant.1 ∙ ap (grow (network_of s)) all;
+      laws = laws_hold (network_of l) l.entered (steps_of l);
     }

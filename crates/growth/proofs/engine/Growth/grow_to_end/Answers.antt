@@ -10,12 +10,12 @@ returns g c =
     let s = c.args.self.now in
     let net = network_of s in
     let h = c.grow.ensures in
+    let count = ap (λ x. node_count (network_of x)) c.self.view_is in
     let at = steps_of s + c.most_steps-most.result in
-    let over = ends_at_last net c.requires.entered at (omega (arith, c.most_steps-most.ensures)) in
+    let over = ends_at_last net s.entered at (omega (arith, c.most_steps-most.ensures)) in
     record {
       network = h.network;
-      state = h.state ∙ ends_once net at (2 * node_count net) over (ends_at_last net c.requires.entered (2 * node_count net) (omega arith));
+      state = h.state ∙ ends_once net at (2 * node_count net) over (ends_at_last net s.entered (2 * node_count net) (omega arith));
       ended = ap ended h.state ∙ over;
-      sound = h.sound;
       laws = h.laws;
     }

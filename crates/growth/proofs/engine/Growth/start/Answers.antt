@@ -9,11 +9,16 @@ pub returns : goal.returns
 returns g c =
     let net = net_of c.args.network in
     let t = c.open-tables.result in
-    let first : grow net t.steps ≡ start net = ap (grow net) c.open-tables.ensures.shown.steps in
     record {
       network = refl;
-      state = first;
+      state = ap (grow net) c.open-tables.ensures.shown.steps;
       steps = c.open-tables.ensures.shown.steps;
-      sound = record { entered = c.args.network.valid; shown = subst (ShowsAll net t) (sym first) c.open-tables.ensures; due = c.fill.ensures };
       laws = laws_hold net c.args.network.valid t.steps;
     }
+
+pub invariant_of-result : goal.invariant_of-result
+invariant_of-result g c =
+    let net = net_of c.args.network in
+    let t = c.open-tables.result in
+    let first : grow net t.steps ≡ start net = ap (grow net) c.open-tables.ensures.shown.steps in
+    record { shown = subst (ShowsAll net t) (sym first) c.open-tables.ensures; due = c.fill.ensures }
