@@ -23,32 +23,29 @@ fn with_marks(
 ) -> Result<Kept, Refusal>
     ensures { result ≡ with_marks answer nodes edges }
 {
-    match answer {
-        Ok(answer) => Ok(Kept {
-            answer,
-            nodes,
-            edges,
-        }),
-        Err(why) => Err(why),
-    }
+    answer.map(|answer| Kept {
+        answer,
+        nodes,
+        edges,
+    })
 }
 
 fn kept_plan<Q: EventQueue>(growth: &Growth<Q>) -> Result<Kept, Refusal>
-    requires over { ended (state_of growth.now) ≡ true }
+    requires { ended (state_of growth.now) ≡ true }
     ensures { result ≡ kept_answer (network_of growth.now) (plan (network_of growth.now) (state_of growth.now)) }
 {
-    let mut nodes = [0u8; 256];
-    let mut edges = [0u8; 1024];
+    let mut nodes = [0; 256];
+    let mut edges = [0; 1024];
     let answer = growth.prune(&mut nodes, &mut edges);
     with_marks(answer, nodes, edges)
 }
 
 fn kept_strong_plan<Q: EventQueue>(growth: &Growth<Q>) -> Result<Kept, Refusal>
-    requires over { ended (state_of growth.now) ≡ true }
+    requires { ended (state_of growth.now) ≡ true }
     ensures { result ≡ kept_answer (network_of growth.now) (strong_plan (network_of growth.now) (state_of growth.now)) }
 {
-    let mut nodes = [0u8; 256];
-    let mut edges = [0u8; 1024];
+    let mut nodes = [0; 256];
+    let mut edges = [0; 1024];
     let answer = growth.strong_prune(&mut nodes, &mut edges);
     with_marks(answer, nodes, edges)
 }

@@ -28,6 +28,5 @@ returns g c =
           ∙ sym (cond-false (eqb (node_count net) 0) (Err NoNode) (Ok (report_of net)) some);
       network = h.network;
       state = h.state;
-      sound = h.sound;
       laws = h.laws;
     }

@@ -10,6 +10,7 @@ returns g c =
     let s = c.args.growth.now in
     let net = network_of s in
     let st = state_of s in
+    let h = c.prune-answer.ensures in
     c.with_marks.ensures
-    ∙ (λ i. with_marks (c.prune-answer.ensures.answer i) (c.prune-answer.ensures.nodes i) (c.prune-answer.ensures.edges i))
-    ∙ kept_found net c.requires.sound.entered st c.requires.over (plan net st)
+    ∙ (λ i. with_marks (h.answer i) (h.nodes i) (h.edges i))
+    ∙ kept_found net s.entered st c.requires (plan net st)

@@ -6,4 +6,4 @@ pub returns : goal.returns
 returns g c =
     let h = c.final_report-report.ensures in
     let given = c.start-growth.ensures.network in
-    record { answer = h.answer ∙ ap report_answer given; network = h.network ∙ given; state = h.state ∙ ap grown given; sound = h.sound; laws = h.laws }
+    record { answer = h.answer ∙ ap report_answer given; network = h.network ∙ given; state = h.state ∙ ap grown given; laws = h.laws }
