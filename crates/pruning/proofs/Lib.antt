@@ -1,5 +1,6 @@
 pub mod Links
 pub mod Totals
+pub mod Ranges
 pub mod Lowest
 pub mod Marking
 pub mod Hung

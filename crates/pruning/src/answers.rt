@@ -36,34 +36,24 @@ fn prize_unless(network: &Network, nodes: &[u8], v: usize) -> u64
 fn total_cost(network: &Network, edges: &[u8]) -> u64
     ensures { result ≡ tree_cost (net_of network.now) (marked edges.now) }
 {
-    let mut sum = 0;
-    let count = edge_count(network);
-    for s in 0..count {
-        sum += cost_if(network, edges, s);
-    }
-    sum
+    (0..edge_count(network))
+        .map(|s| cost_if(network, edges, s))
+        .sum()
 }
 
 fn total_lost(network: &Network, nodes: &[u8]) -> u64
     ensures { result ≡ lost (net_of network.now) (marked nodes.now) }
 {
-    let mut sum = 0;
-    let count = node_count(network);
-    for v in 0..count {
-        sum += prize_unless(network, nodes, v);
-    }
-    sum
+    (0..node_count(network))
+        .map(|v| prize_unless(network, nodes, v))
+        .sum()
 }
 
 // How many of the first `n` are marked.
 fn count_marked(marks: &[u8], n: usize) -> usize
     ensures { result ≡ sum_to n (λ v. one (marked marks.now v)) }
 {
-    let mut sum = 0;
-    for v in 0..n {
-        sum += is_marked(marks, v) as usize;
-    }
-    sum
+    (0..n).filter(|&v| is_marked(marks, v)).count()
 }
 
 fn status(unserved: u64, left: usize) -> Coverage
