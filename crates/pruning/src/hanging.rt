@@ -23,13 +23,7 @@ fn reaches_out(network: &Network, edges: &[u8], placed: &[u8], s: usize) -> bool
 fn next_edge(network: &Network, edges: &[u8], placed: &[u8]) -> Option<usize>
     ensures { result ≡ next_edge (net_of network.now) (marked edges.now) (marked placed.now) }
 {
-    let count = edge_count(network);
-    for s in 0..count {
-        if reaches_out(network, edges, placed, s) {
-            return Some(s);
-        }
-    }
-    None
+    (0..edge_count(network)).find(|&s| reaches_out(network, edges, placed, s))
 }
 
 // The branch of an edge: its parent is the end that is placed.

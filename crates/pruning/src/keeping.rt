@@ -3,7 +3,7 @@ ghost use Rattle.std.specs.Prelude.{◌≡◌, ◌<◌, ◌≤◌, ◌&&◌, ◌
 ghost use Rattle.network.specs.Networks.{net_of};
 ghost use Rattle.theory.specs.Nets.{edge_count, cost};
 ghost use Rattle.theory.specs.Prune.{marked};
-ghost use Rattle.theory.specs.Strong.{lowest_below, or_zero, greatest, kept};
+ghost use Rattle.theory.specs.Strong.{lowest_below, greatest, kept};
 ghost use Rattle.pruning.specs.Branches.{newest, by_node, Rooted};
 ghost use Rattle.pruning.specs.Strong.{nodes_in};
 
@@ -13,16 +13,11 @@ use super::reads::{edge_at, is_marked, node_count};
 use super::worths::net_worths;
 use network::Network;
 
-// The lowest-numbered of the first `n` that are marked; 0 where none is.
-fn lowest_marked(nodes: &[u8], n: usize) -> usize
-    ensures { result ≡ or_zero (lowest_below n (marked nodes.now)) }
+// The lowest-numbered of the first `n` that are marked.
+fn lowest_marked(nodes: &[u8], n: usize) -> Option<usize>
+    ensures { result ≡ lowest_below n (marked nodes.now) }
 {
-    for v in 0..n {
-        if is_marked(nodes, v) {
-            return v;
-        }
-    }
-    0
+    (0..n).find(|&v| is_marked(nodes, v))
 }
 
 // The node `v` if it is marked and worth more, else `best`.
@@ -96,7 +91,7 @@ pub(crate) fn strong_nodes(network: &Network, nodes: &[u8], edges: &[u8]) -> [u8
     ensures value { marked result ≡ nodes_in (net_of network.now) (marked nodes.now) (marked edges.now) }
 {
     let n = node_count(network);
-    let root = lowest_marked(nodes, n);
+    let root = lowest_marked(nodes, n).unwrap_or(0);
     let mut branches = [Branch {
         child: 0,
         parent: 0,

@@ -15,6 +15,7 @@ use super::shape::Shape;
 use super::writing::{stays, write_nodes, write_plan};
 use network::Network;
 use refusal::Refusal;
+use std::array;
 
 // Whether an edge of the tree has just one end among the members.
 fn leaves(network: &Network, chosen: &[u8], nodes: &[u8], members: &[u8], s: usize) -> bool
@@ -60,12 +61,7 @@ fn next_cluster(network: &Network, shapes: &[Shape], chosen: &[u8], nodes: &[u8]
     requires { length shapes.now ≤ 511 }
     ensures { result ≡ next_pruned (net_of network.now) shapes.now (marked chosen.now) (marked nodes.now) }
 {
-    for c in 0..shapes.len() {
-        if is_prunable(network, shapes, chosen, nodes, c) {
-            return Some(c);
-        }
-    }
-    None
+    (0..shapes.len()).find(|&c| is_prunable(network, shapes, chosen, nodes, c))
 }
 
 // Whether a place is among the nodes and not among the members.
@@ -75,36 +71,24 @@ fn is_left(nodes: &[u8], members: &[u8], v: usize) -> bool
     is_marked(nodes, v) && !is_marked(members, v)
 }
 
-// Of the first `n`, marks those that are among the nodes and not among the members.
-fn take_away(nodes: &[u8], members: &[u8], n: usize) -> [u8; 256]
-    requires { n ≤ 256 }
-    ensures long { length result ≡ 256 }
-    ensures value { (v : ℕ) → v < n → marked result v ≡ except (marked nodes.now) (marked members.now) v }
+// Marks the places that are among the nodes and not among the members.
+fn take_away(nodes: &[u8], members: &[u8]) -> [u8; 256]
+    ensures { (v : ℕ) → v < 256 → marked result v ≡ except (marked nodes.now) (marked members.now) v }
 {
-    let mut rest = [0u8; 256];
-    for v in 0..n {
-        rest[v] = is_left(nodes, members, v) as u8;
-    }
-    rest
+    array::from_fn(|v| is_left(nodes, members, v) as u8)
 }
 
 // Marks the nodes of the tree that pruning leaves.
 fn pruned_nodes(network: &Network, shapes: &[Shape], chosen: &[u8], tree_nodes: &[u8]) -> [u8; 256]
     requires { length shapes.now ≤ 511 }
-    ensures long { length result ≡ 256 }
-    ensures value { (v : ℕ) → v < node_count (net_of network.now) → marked result v ≡ pruned_in (net_of network.now) shapes.now (marked tree_nodes.now) (marked chosen.now) v }
+    ensures { (v : ℕ) → v < node_count (net_of network.now) → marked result v ≡ pruned_in (net_of network.now) shapes.now (marked tree_nodes.now) (marked chosen.now) v }
 {
-    let n = node_count(network);
-    let mut nodes = [0u8; 256];
-    write_nodes(tree_nodes, n, &mut nodes);
-    let mut turns = n;
-    while turns > 0 {
+    let mut nodes = array::from_fn(|v| is_marked(tree_nodes, v) as u8);
+    for _ in 0..node_count(network) {
         let Some(c) = next_cluster(network, shapes, chosen, &nodes) else {
-            return nodes;
+            break;
         };
-        let members = members_of(shapes, c);
-        nodes = take_away(&nodes, &members, n);
-        turns -= 1;
+        nodes = take_away(&nodes, &members_of(shapes, c));
     }
     nodes
 }

@@ -16,7 +16,7 @@ returns c =
     let K = marked c.pruned_nodes-nodes.result in
     let N = marked c.args.tree_nodes.now in
     let M = pruned_in net (heeded c.args.shapes.now) N E in
-    let same : (v : ℕ) → v < node_count net → K v ≡ M v = (λ v l. c.pruned_nodes-nodes.ensures.value v l ∙ ap (λ s. pruned_in net s N E v) c.first_shapes.ensures.value) in
+    let same : (v : ℕ) → v < node_count net → K v ≡ M v = (λ v l. c.pruned_nodes-nodes.ensures v l ∙ ap (λ s. pruned_in net s N E v) c.first_shapes.ensures.value) in
     let plan = plan_same net K M (edges_among net E K) (edges_among net E M) same (among_same net (fine net c.args.network.now.valid) E K M same) in
     record {
       answer = c.write_plan.ensures.answer ∙ ap answer_of plan;
