@@ -1,12 +1,12 @@
 -- Chains over the numbers below n, in the words of the theory: their sum, their count, the first that passes. Assumes nothing.
-use Rattle.std.proofs.Common.{◌≡◌, ℕ, zero, suc, ◌+◌, ◌*◌, ◌<◌, ◌≤◌, Bool, true, false, cond, eqb, get_or, inl, inr, subst, List, [], ◌∷◌, map, length, Option, Some, None, refl, ap, ◌∙◌, sym, add-one, arith}
+use Rattle.std.proofs.Common.{◌≡◌, ℕ, zero, suc, ◌+◌, ◌*◌, ◌<◌, ◌≤◌, Bool, true, false, eqb, get_or, inl, inr, subst, List, map, length, Option, Some, None, refl, ap, ◌∙◌, sym, add-one, arith}
 use denote.Param.Members.{Mut}
 use denote.Ref.{Bor}
 use mir.Val.{bool_byte}
 use Rattle.std.specs.Array.{IsFromFnResult, IsFromFnResultFrom}
 use Rattle.std.specs.Bool.{⊤}
 use Rattle.std.specs.Fn.{Called, CalledAt}
-use Rattle.std.specs.List.{range_with_len, fold, sum_by, filter, FoldsTo}
+use Rattle.std.specs.List.{range_with_len, fold, sum_by, FoldsTo}
 use Rattle.std.specs.Option.{MatchOption}
 use Rattle.std.specs.Iterator.{Drains, YieldsThen}
 use Rattle.std.specs.Iterator.Adapters.{map_source, map_callee, filter_source, filter_callee, filter_steps}

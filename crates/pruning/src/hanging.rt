@@ -1,14 +1,15 @@
 // Rooting a tree: its branches, each parent before its children.
-ghost use Rattle.std.specs.Prelude.{◌≡◌, ◌<◌, ◌≤◌, ◌&&◌, [], length};
+ghost use Rattle.std.specs.Prelude.{◌≡◌, ◌<◌, ◌&&◌, []};
 ghost use Rattle.network.specs.Networks.{net_of};
 ghost use Rattle.theory.specs.Sums.{differ};
 ghost use Rattle.theory.specs.Nets.{node_count, edge_count, first_end, second_end};
 ghost use Rattle.theory.specs.Prune.{marked};
 ghost use Rattle.theory.specs.Strong.{branch, next_edge, hang_from};
-ghost use Rattle.pruning.specs.Branches.{branch_of, newest};
+ghost use Rattle.pruning.specs.Branches.{branch_of, newest_first};
 
 use super::branch::Branch;
 use super::reads::{edge_at, edge_count, has_one_end, is_marked, node_count};
+use arrayvec::ArrayVec;
 use network::Network;
 
 // Whether an edge is marked and just one of its ends is placed.
@@ -47,25 +48,21 @@ fn branch_at(network: &Network, placed: &[u8], s: usize) -> Branch
     }
 }
 
-// Writes the branches of the tree from its root on to the front of the list: how many there are.
-pub(crate) fn hang(network: &Network, edges: &[u8], root: usize, branches: &mut [Branch]) -> usize
-    requires root { root < 256 }
-    requires room { 256 ≤ length branches.old }
-    ensures within { result ≤ node_count (net_of network.now) }
-    ensures hung { newest result branches.new ≡ hang_from (node_count (net_of network.now)) (net_of network.now) (marked edges.now) root [] }
+// The branches of the tree from its root on.
+pub(crate) fn hang(network: &Network, edges: &[u8], root: usize) -> ArrayVec<Branch, 256>
+    requires { root < 256 }
+    ensures { newest_first result.items ≡ hang_from (node_count (net_of network.now)) (net_of network.now) (marked edges.now) root [] }
 {
     let mut placed = [0u8; 256];
     placed[root] = 1;
-    let nodes = node_count(network);
-    let mut count = 0;
-    while count < nodes {
+    let mut branches = ArrayVec::new();
+    for _ in 0..node_count(network) {
         let Some(s) = next_edge(network, edges, &placed) else {
-            return count;
+            break;
         };
         let next = branch_at(network, &placed, s);
-        branches[count] = next;
+        branches.push(next);
         placed[next.child] = 1;
-        count += 1;
     }
-    count
+    branches
 }

@@ -1,10 +1,9 @@
 // What pruning leaves of a tree, written to the lists of the caller.
-ghost use Rattle.std.specs.Prelude.{◌≡◌, ℕ, ◌<◌, ◌≤◌, ◌&&◌, ◌++◌, length, drop};
+ghost use Rattle.std.specs.Prelude.{◌≡◌, ℕ, ◌<◌, ◌≤◌, ◌&&◌, length};
 ghost use Rattle.network.specs.Networks.{net_of};
 ghost use Rattle.theory.specs.Sums.{differ};
 ghost use Rattle.theory.specs.Nets.{node_count, edge_count, first_end, second_end};
 ghost use Rattle.theory.specs.Prune.{marked};
-ghost use Rattle.pruning.specs.Answers.{answer_of};
 ghost use Rattle.pruning.specs.Pruned.{heeded, member, leaving, prunable_at, next_pruned, except, pruned_in, plan_in, prune_answer};
 ghost use Rattle.pruning.specs.Written.{edges_among, too_short, unless_short};
 
@@ -12,7 +11,7 @@ use super::answer::Answer;
 use super::members::members_of;
 use super::reads::{edge_count, has_one_end, is_marked, node_count};
 use super::shape::Shape;
-use super::writing::{stays, write_nodes, write_plan};
+use super::writing::{check_room, stays, write_plan};
 use network::Network;
 use refusal::Refusal;
 use std::array;
@@ -104,25 +103,6 @@ fn first_shapes(shapes: &[Shape]) -> &[Shape]
     &shapes[0..511]
 }
 
-// Writes what pruning leaves of a tree to the front of two lists that are long enough.
-fn prune_into(
-    network: &Network,
-    shapes: &[Shape],
-    chosen: &[u8],
-    tree_nodes: &[u8],
-    nodes_out: &mut [u8],
-    edges_out: &mut [u8],
-) -> Answer
-    requires nodes { node_count (net_of network.now) ≤ length nodes_out.old }
-    requires edges { edge_count (net_of network.now) ≤ length edges_out.old }
-    ensures answer { result ≡ answer_of (plan_in (net_of network.now) (heeded shapes.now) (marked tree_nodes.now) (marked chosen.now)) }
-    ensures nodes { nodes_out.new ≡ (plan_in (net_of network.now) (heeded shapes.now) (marked tree_nodes.now) (marked chosen.now)).node_marks ++ drop (node_count (net_of network.now)) nodes_out.old }
-    ensures edges { edges_out.new ≡ (plan_in (net_of network.now) (heeded shapes.now) (marked tree_nodes.now) (marked chosen.now)).edge_marks ++ drop (edge_count (net_of network.now)) edges_out.old }
-{
-    let nodes = pruned_nodes(network, first_shapes(shapes), chosen, tree_nodes);
-    write_plan(network, &nodes, chosen, nodes_out, edges_out)
-}
-
 // Of the tree with the marked nodes and the chosen edges among them, takes away inactive clusters that just one edge leaves,
 // the lowest-numbered first, until there is none. Writes what is left to the front of the two lists, and answers for it.
 // Only the first 511 shapes count. A list shorter than the nodes or the edges refuses, and nothing is written.
@@ -138,10 +118,7 @@ pub fn prune_tree(
     ensures nodes { nodes_out.new ≡ unless_short (too_short (net_of network.now) nodes_out.old edges_out.old) (plan_in (net_of network.now) (heeded shapes.now) (marked tree_nodes.now) (marked chosen.now)).node_marks (node_count (net_of network.now)) nodes_out.old }
     ensures edges { edges_out.new ≡ unless_short (too_short (net_of network.now) nodes_out.old edges_out.old) (plan_in (net_of network.now) (heeded shapes.now) (marked tree_nodes.now) (marked chosen.now)).edge_marks (edge_count (net_of network.now)) edges_out.old }
 {
-    let few_nodes = nodes_out.len() < node_count(network);
-    let few_edges = edges_out.len() < edge_count(network);
-    if few_nodes || few_edges {
-        return Err(Refusal::ListTooShort);
-    }
-    Ok(prune_into(network, shapes, chosen, tree_nodes, nodes_out, edges_out))
+    check_room(network, nodes_out, edges_out)?;
+    let nodes = pruned_nodes(network, first_shapes(shapes), chosen, tree_nodes);
+    Ok(write_plan(network, &nodes, chosen, nodes_out, edges_out))
 }

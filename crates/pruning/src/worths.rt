@@ -3,7 +3,7 @@ ghost use Rattle.std.specs.Prelude.{◌≡◌, ◌+◌, ◌-◌, ◌<◌, ◌≤
 ghost use Rattle.network.specs.Networks.{net_of};
 ghost use Rattle.theory.specs.Nets.{edge_count, prize, cost};
 ghost use Rattle.theory.specs.Strong.{worths};
-ghost use Rattle.pruning.specs.Branches.{newest, by_node, Rooted};
+ghost use Rattle.pruning.specs.Branches.{newest_first, by_node, Rooted};
 
 use super::branch::Branch;
 use super::reads::edge_at;
@@ -34,19 +34,14 @@ fn lift(network: &Network, last: Branch, table: &mut [u64])
 }
 
 // The net worths by node: the branches are taken off from the last to the first.
-pub(crate) fn net_worths(network: &Network, branches: &[Branch], count: usize) -> [u64; 256]
-    requires few { count ≤ 256 }
-    requires room { count ≤ length branches.now }
-    requires rooted { Rooted (net_of network.now) (newest count branches.now) }
-    ensures long { length result ≡ 256 }
-    ensures value { by_node result ≡ worths (net_of network.now) (newest count branches.now) (prize (net_of network.now)) }
+pub(crate) fn net_worths(network: &Network, branches: &[Branch]) -> [u64; 256]
+    requires few { length branches.now ≤ 256 }
+    requires rooted { Rooted (net_of network.now) (newest_first branches.now) }
+    ensures { by_node result ≡ worths (net_of network.now) (newest_first branches.now) (prize (net_of network.now)) }
 {
     let mut table = prizes_by_node(network);
-    let mut left = count;
-    while left > 0 {
-        left -= 1;
-        let last = branches[left];
-        lift(network, last, &mut table);
+    for last in branches.iter().rev() {
+        lift(network, *last, &mut table);
     }
     table
 }

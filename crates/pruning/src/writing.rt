@@ -1,18 +1,40 @@
 // Writing a plan to the lists of a caller.
-ghost use Rattle.std.specs.Prelude.{◌≡◌, ◌<◌, ◌≤◌, ◌++◌, length, drop};
+ghost use Rattle.std.specs.Prelude.{◌≡◌, ◌<◌, ◌≤◌, true, false, ◌++◌, length, drop, OnOk, OnErr, IfErr};
+ghost use Rattle.refusal.specs.declared.Refusal.TheVariants.{ListTooShort};
 ghost use Rattle.network.specs.Networks.{net_of};
 ghost use Rattle.theory.specs.Nets.{node_count, edge_count};
 ghost use Rattle.theory.specs.Prune.{marks, marked};
 ghost use Rattle.pruning.specs.Answers.{answer_of};
-ghost use Rattle.pruning.specs.Written.{edges_among, plan_among};
+ghost use Rattle.pruning.specs.Written.{edges_among, plan_among, too_short};
 
 use super::answer::Answer;
 use super::answers::plan_answer;
 use super::reads::{edge_at, edge_count, is_marked, node_count};
 use network::Network;
+use refusal::Refusal;
+
+// Refuses lists that are shorter than the nodes or the edges.
+pub(crate) fn check_room(
+    network: &Network,
+    nodes_out: &[u8],
+    edges_out: &[u8],
+) -> Result<(), Refusal>
+    ensures nodes { OnOk result (node_count (net_of network.now) ≤ length nodes_out.now) }
+    ensures edges { OnOk result (edge_count (net_of network.now) ≤ length edges_out.now) }
+    ensures ok { OnOk result (too_short (net_of network.now) nodes_out.now edges_out.now ≡ false) }
+    ensures short { IfErr result (λ e. e ≡ ListTooShort) }
+    ensures err { OnErr result (too_short (net_of network.now) nodes_out.now edges_out.now ≡ true) }
+{
+    let few_nodes = nodes_out.len() < node_count(network);
+    let few_edges = edges_out.len() < edge_count(network);
+    if few_nodes || few_edges {
+        return Err(Refusal::ListTooShort);
+    }
+    Ok(())
+}
 
 // Writes 1 or 0 for each of the first `n`.
-pub(crate) fn write_nodes(nodes: &[u8], n: usize, out: &mut [u8])
+fn write_nodes(nodes: &[u8], n: usize, out: &mut [u8])
     requires { n ≤ length out.old }
     ensures { out.new ≡ marks n (marked nodes.now) ++ drop n out.old }
 {

@@ -1,4 +1,4 @@
-use Rattle.std.proofs.Common.{◌≡◌, ℕ, suc, ◌+◌, ◌-◌, not, ◌&&◌, length, sym, ap, ◌∙◌, rules, tests, arith}
+use Rattle.std.proofs.Common.{◌≡◌, suc, ◌+◌, ◌-◌, not, ◌&&◌, length, sym, ap, ◌∙◌, rules, tests, arith}
 use Rattle.network.specs.Networks.{net_of}
 use Rattle.theory.specs.Nets.{node_count}
 use Rattle.theory.specs.Prune.{marked}
@@ -21,7 +21,7 @@ loop-init c =
     let M = marked c.from_fn-nodes.result in
     let all : c.node_count-end.result - 0 ≡ node_count net = omega arith in
     λ v l. ap (λ k. prune_in k net shapes E M v) all
-        ∙ prune_same net f shapes E (node_count net) M N (λ u b. marks_made N 256 c.from_fn-nodes.result (λ x y q k. search (rules, tests)) c.from_fn-nodes.ensures.items u (omega arith)) v l
+    ∙ prune_same net f shapes E (node_count net) M N (λ u b. marks_made N 256 c.from_fn-nodes.result (λ x y q k. search (rules, tests)) c.from_fn-nodes.ensures.items u (omega arith)) v l
 
 pub returns-in_default : goal.returns-in_default
 returns-in_default c =
@@ -51,9 +51,9 @@ loop-preserved c =
     let k = c.node_count-end.result - (c.loop.counter + 1) in
     let turns : c.node_count-end.result - c.loop.counter ≡ suc k = omega arith in
     λ v l. prune_same net f shapes E k (marked c.take_away-nodes.result) (except M L) (λ u b. c.take_away-nodes.ensures u (omega arith) ∙ ap (λ x. M u && not x) (c.members_of.ensures.value u (omega arith))) v l
-        ∙ sym (ap (λ P. P v) (turn_next net shapes E k M c.in-Some.c (sym c.next_cluster.ensures ∙ c.in-Some.is)))
-        ∙ ap (λ j. prune_in j net shapes E M v) (sym turns)
-        ∙ c.loop.invariant v l
+    ∙ sym (ap (λ P. P v) (turn_next net shapes E k M c.in-Some.c (sym c.next_cluster.ensures ∙ c.in-Some.is)))
+    ∙ ap (λ j. prune_in j net shapes E M v) (sym turns)
+    ∙ c.loop.invariant v l
 
 pub returns-after-loop : goal.returns-after-loop
 returns-after-loop c =
