@@ -50,7 +50,7 @@ loop-preserved c =
     let L = member shapes c.in-Some.c in
     let k = c.node_count-end.result - (c.loop.counter + 1) in
     let turns : c.node_count-end.result - c.loop.counter ≡ suc k = omega arith in
-    λ v l. prune_same net f shapes E k (marked c.take_away-nodes.result) (except M L) (λ u b. c.take_away-nodes.ensures u (omega arith) ∙ ap (λ x. M u && not x) (c.members_of.ensures.value u (omega arith))) v l
+    λ v l. prune_same net f shapes E k (marked c.take_away-nodes.result) (except M L) (λ u b. c.take_away-nodes.ensures u (omega arith) ∙ ap (λ x. M u && not x) (c.members_of.ensures u (omega arith))) v l
     ∙ sym (ap (λ P. P v) (turn_next net shapes E k M c.in-Some.c (sym c.next_cluster.ensures ∙ c.in-Some.is)))
     ∙ ap (λ j. prune_in j net shapes E M v) (sym turns)
     ∙ c.loop.invariant v l
