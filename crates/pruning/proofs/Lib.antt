@@ -1,4 +1,5 @@
 pub mod Links
+pub mod EdgeReads
 pub mod Totals
 pub mod Ranges
 pub mod Lowest

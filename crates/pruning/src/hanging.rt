@@ -8,7 +8,7 @@ ghost use Rattle.theory.specs.Strong.{branch, next_edge, hang_from};
 ghost use Rattle.pruning.specs.Branches.{branch_of, newest_first};
 
 use super::branch::Branch;
-use super::reads::{edge_at, edge_count, has_one_end, is_marked, node_count};
+use super::reads::{edge_count, has_one_end, is_marked, node_count};
 use arrayvec::ArrayVec;
 use network::Network;
 
@@ -28,21 +28,22 @@ fn next_edge(network: &Network, edges: &[u8], placed: &[u8]) -> Option<usize>
 }
 
 // The branch of an edge: its parent is the end that is placed.
+#[tactic(auto, using(crate::proofs::EdgeReads::edge_reads))]
 fn branch_at(network: &Network, placed: &[u8], s: usize) -> Branch
     requires { s < edge_count (net_of network.now) }
     ensures { branch_of result ≡ branch (net_of network.now) (marked placed.now) s }
 {
-    let link = edge_at(network, s);
-    if is_marked(placed, link.first) {
+    let edge = network.edges()[s];
+    if is_marked(placed, edge.first) {
         Branch {
-            child: link.second,
-            parent: link.first,
+            child: edge.second,
+            parent: edge.first,
             edge: s,
         }
     } else {
         Branch {
-            child: link.first,
-            parent: link.second,
+            child: edge.first,
+            parent: edge.second,
             edge: s,
         }
     }

@@ -9,7 +9,7 @@ ghost use Rattle.pruning.specs.Strong.{nodes_in};
 
 use super::branch::Branch;
 use super::hanging::hang;
-use super::reads::{edge_at, is_marked, node_count};
+use super::reads::{is_marked, node_count};
 use super::worths::net_worths;
 use network::Network;
 
@@ -47,6 +47,7 @@ fn best_node(nodes: &[u8], n: usize, table: &[u64], root: usize) -> usize
 }
 
 // Whether the child of a branch is kept: it is the best node, or its parent is kept and it is worth more than its edge costs.
+#[tactic(auto, using(crate::proofs::EdgeReads::edge_reads))]
 fn is_kept(network: &Network, table: &[u64], best: usize, above: &[u8], next: Branch) -> bool
     requires edge { next.edge < edge_count (net_of network.now) }
     requires child { next.child < length table.now }
@@ -55,7 +56,7 @@ fn is_kept(network: &Network, table: &[u64], best: usize, above: &[u8], next: Br
     if next.child == best {
         return true;
     }
-    let price = edge_at(network, next.edge).cost;
+    let price = network.edges()[next.edge].cost;
     is_marked(above, next.parent) && price < table[next.child]
 }
 

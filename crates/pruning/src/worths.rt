@@ -6,7 +6,6 @@ ghost use Rattle.theory.specs.Strong.{worths};
 ghost use Rattle.pruning.specs.Branches.{newest_first, by_node, Rooted};
 
 use super::branch::Branch;
-use super::reads::edge_at;
 use network::Network;
 
 // The prizes by node.
@@ -21,6 +20,7 @@ fn prizes_by_node(network: &Network) -> [u64; 256]
 }
 
 // Takes the child of a branch off: the parent gains what the child is worth beyond the edge's cost.
+#[tactic(auto, using(crate::proofs::EdgeReads::edge_reads))]
 fn lift(network: &Network, last: Branch, table: &mut [u64])
     requires edge { last.edge < edge_count (net_of network.now) }
     requires child { last.child < length table.old }
@@ -28,7 +28,7 @@ fn lift(network: &Network, last: Branch, table: &mut [u64])
     requires small { by_node table.old last.parent + (by_node table.old last.child - cost (net_of network.now) last.edge) ≤ 257000000000 }
     ensures { table.new ≡ slice_set table.old last.parent (by_node table.old last.parent + (by_node table.old last.child - cost (net_of network.now) last.edge)) }
 {
-    let price = edge_at(network, last.edge).cost;
+    let price = network.edges()[last.edge].cost;
     let gain = table[last.child].saturating_sub(price);
     table[last.parent] += gain;
 }

@@ -9,7 +9,7 @@ ghost use Rattle.pruning.specs.Written.{edges_among, plan_among, too_short};
 
 use super::answer::Answer;
 use super::answers::plan_answer;
-use super::reads::{edge_at, edge_count, is_marked, node_count};
+use super::reads::{edge_count, is_marked, node_count};
 use network::Network;
 use refusal::Refusal;
 
@@ -44,12 +44,13 @@ fn write_nodes(nodes: &[u8], n: usize, out: &mut [u8])
 }
 
 // Whether an edge is marked and both its ends are among the nodes.
+#[tactic(auto, using(crate::proofs::EdgeReads::edge_reads))]
 pub(crate) fn stays(network: &Network, edges: &[u8], nodes: &[u8], s: usize) -> bool
     requires { s < edge_count (net_of network.now) }
     ensures { result ≡ edges_among (net_of network.now) (marked edges.now) (marked nodes.now) s }
 {
-    let link = edge_at(network, s);
-    is_marked(edges, s) && is_marked(nodes, link.first) && is_marked(nodes, link.second)
+    let edge = network.edges()[s];
+    is_marked(edges, s) && is_marked(nodes, edge.first) && is_marked(nodes, edge.second)
 }
 
 // Writes 1 or 0 for each edge.
