@@ -1,4 +1,4 @@
-use Rattle.std.proofs.Common.{◌≡◌, ℕ, ◌<◌, ◌≤◌, ◌||◌, length}
+use Rattle.std.proofs.Common.{◌≡◌, ℕ, ◌<◌, ◌||◌}
 use Rattle.theory.specs.Prune.{marked}
 use Rattle.pruning.specs.Pruned.{member, held_below}
 use Rattle.pruning.proofs.members.members_of.Given as goal
