@@ -1,7 +1,7 @@
 -- Hanging a tree branch by branch. Assumes nothing.
-use Rattle.std.proofs.Common.{◌≡◌, ℕ, zero, suc, ◌+◌, ◌<◌, ◌≤◌, Bool, true, false, cond, ◌&&◌, ◌||◌, eqb, List, [], ◌∷◌, length, set, replicate, Some, None, sym, refl, ap, ◌∙◌, add-one, arith}
+use Rattle.std.proofs.Common.{◌≡◌, ℕ, suc, ◌<◌, Bool, true, false, cond, ◌&&◌, ◌||◌, eqb, List, [], ◌∷◌, ◌++◌, map, length, set, replicate, Some, None, sym, refl, ap, ◌∙◌, arith}
 use mathlib.Core.Path.{fun_ext}
-use Rattle.std.proofs.lemmas.List.{get_or-set_same, get_or-set_other, length-replicate, length-set}
+use Rattle.std.proofs.lemmas.List.{reverse-append, length-replicate, length-set}
 use Rattle.network.specs.Nets.{Net}
 use Rattle.theory.specs.Sums.{differ}
 use Rattle.theory.specs.Nets.{node_count, edge_count, first_end, second_end}
@@ -10,20 +10,13 @@ use Rattle.theory.specs.Strong as theory
 use Rattle.theory.specs.Strong.{hung, branch, next_edge, hang_from}
 use Rattle.theory.proofs.Valid.{Fine}
 use Rattle.theory.proofs.Hanging.{lowest_some}
-use Rattle.pruning.specs.Branches.{branch_of, no_branch, newest}
+use Rattle.pruning.specs.Branches.{branch_of, newest_first}
 use Rattle.pruning.specs.declared.branch.Branch.{Branch}
 use Rattle.pruning.proofs.Marking.{marked_set, get_or_zeros}
 
--- a write behind the first k leaves them
-newest_kept : (k i : ℕ) (bs : List Branch) (b : Branch) → k ≤ i → newest k (set bs i b) ≡ newest k bs
-newest_kept zero i bs b l = refl
-newest_kept (suc k) i bs b l = λ t. branch_of (get_or-set_other bs i k b no_branch (λ e. omega arith) t) ∷ newest_kept k i bs b (omega arith) t
-
 -- one more branch
-pub newest_more : (i : ℕ) (bs : List Branch) (b : Branch) → i < length bs → newest (i + 1) (set bs i b) ≡ branch_of b ∷ newest i bs
-newest_more i bs b l =
-    ap (λ n. newest n (set bs i b)) (add-one i)
-    ∙ λ t. branch_of (get_or-set_same bs i b no_branch l t) ∷ newest_kept i i bs b (omega arith) t
+pub newest_more : (bs : List Branch) (b : Branch) → newest_first (bs ++ b ∷ []) ≡ branch_of b ∷ newest_first bs
+newest_more bs b = ap (map branch_of) (reverse-append bs (b ∷ []))
 
 or_cond : (x y : Bool) → cond x true y ≡ (x || y)
 or_cond true y = refl

@@ -1,8 +1,7 @@
 -- Marking the nodes that are kept, from the root down. Assumes nothing.
-use Rattle.std.proofs.Common.{◌≡◌, ℕ, zero, suc, ◌<◌, ◌≤◌, Bool, true, false, cond, ◌&&◌, ◌||◌, eqb, ltb, List, [], ◌∷◌, length, get_or, set, replicate, Some, None, Option, refl, ap, ◌∙◌, inl, inr, arith}
+use Rattle.std.proofs.Common.{◌≡◌, ℕ, zero, suc, ◌-◌, ◌<◌, ◌≤◌, Bool, true, false, cond, ◌&&◌, ◌||◌, eqb, ltb, List, [], ◌∷◌, map, reverse, length, get_or, set, replicate, Some, None, Option, unwrap_or, refl, ap, ◌∙◌, subst, arith}
 use mathlib.Core.Path.{fun_ext}
-use Rattle.std.proofs.lemmas.List.{length-replicate}
-use Rattle.std.proofs.lemmas.Bool.{cases_eq}
+use Rattle.std.proofs.lemmas.List.{length-replicate, length-reverse, get_or-reverse}
 use Rattle.network.specs.Nets.{Net}
 use Rattle.theory.specs.Sums.{one}
 use Rattle.theory.specs.Nets.{node_count, prize, cost}
@@ -11,25 +10,34 @@ use Rattle.theory.specs.Strong as theory
 use Rattle.theory.specs.Strong.{lowest_below, or_zero, Hang, hang_from, worths, greatest, kept}
 use Rattle.theory.proofs.Valid.{Fine}
 use Rattle.theory.proofs.Hanging.{lowest_some}
-use Rattle.pruning.specs.Branches.{branch_of, no_branch, newest, entered}
+use Rattle.pruning.specs.Branches.{branch_of, newest_first, entered}
 use Rattle.pruning.specs.Strong.{root_in, branches_in, worths_in, best_in, nodes_in}
 use Rattle.pruning.specs.declared.branch.Branch.{Branch}
 use Rattle.pruning.proofs.Marking.{marked_set, get_or_zeros}
 use Rattle.pruning.proofs.Rooting.{Inside, inside}
 
 -- each branch is inside the network
-pub inside_at : (net : Net) → Fine net → (root k : ℕ) (bs : List Branch) → Hang net (entered net) root (newest k bs) → (i : ℕ) → i < k → Inside net (branch_of (get_or bs i no_branch))
-inside_at net f root zero bs h i l = absurd (omega arith)
-inside_at net f root (suc k) bs h i l = elim (cases_eq i k) [
-  | inl e ↦ rw e (inside net f (branch_of (get_or bs k no_branch)) h.2 h.3)
-  | inr e ↦ inside_at net f root k bs h.4 i (omega arith)
-]
+all_inside : (net : Net) → Fine net → (root : ℕ) (bs : List Branch) → Hang net (entered net) root (map branch_of bs) → (i : ℕ) (d : Branch) → i < length bs → Inside net (branch_of (get_or bs i d))
+all_inside net f root [] h i d l = absurd (omega arith)
+all_inside net f root (b ∷ bs) h zero d l = inside net f (branch_of b) h.2 h.3
+all_inside net f root (b ∷ bs) h (suc i) d l = all_inside net f root bs h.4 i d (omega arith)
 
--- the root is a node of the list of 256
-pub root_below : (n : ℕ) (p : ℕ → Bool) → n ≤ 256 → or_zero (lowest_below n p) < 256
+pub inside_at : (net : Net) → Fine net → (root : ℕ) (bs : List Branch) → Hang net (entered net) root (newest_first bs) → (i : ℕ) (d : Branch) → i < length bs → Inside net (branch_of (get_or bs i d))
+inside_at net f root bs h i d l =
+    let n = length-reverse bs in
+    let back = get_or-reverse bs (length bs - 1 - i) d (omega arith) in
+    let same : length bs - 1 - (length bs - 1 - i) ≡ i = omega arith in
+    subst (λ b. Inside net (branch_of b)) (back ∙ ap (λ k. get_or bs k d) same) (all_inside net f root (reverse bs) h (length bs - 1 - i) d (omega arith))
+
+-- the root as the code finds it, a node of the list of 256
+pub root_is : (o : Option ℕ) → unwrap_or o 0 ≡ or_zero o
+root_is None = refl
+root_is (Some v) = refl
+
+pub root_below : (n : ℕ) (p : ℕ → Bool) → n ≤ 256 → unwrap_or (lowest_below n p) 0 < 256
 root_below n p few = by (lowest_below n p) refl
   where
-    by : (o : Option ℕ) → lowest_below n p ≡ o → or_zero o < 256
+    by : (o : Option ℕ) → lowest_below n p ≡ o → unwrap_or o 0 < 256
     by None e = omega arith
     by (Some v) e = let l = (lowest_some n p v e).0 in omega arith
 

@@ -1,5 +1,7 @@
 pub mod Links
+pub mod EdgeReads
 pub mod Totals
+pub mod Ranges
 pub mod Lowest
 pub mod Marking
 pub mod Hung

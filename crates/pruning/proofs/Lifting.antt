@@ -1,5 +1,5 @@
 -- Net worths from the last branch to the first: the values stay those of the theory, and small. Assumes nothing.
-use Rattle.std.proofs.Common.{◌≡◌, ℕ, zero, suc, ◌+◌, ◌-◌, ◌*◌, ◌<◌, ◌≤◌, List, ◌∷◌, ◌++◌, length, get_or, drop, set, replicate, sym, refl, ap, ◌∙◌, inl, inr, arith}
+use Rattle.std.proofs.Common.{◌≡◌, ℕ, ◌+◌, ◌-◌, ◌*◌, ◌<◌, ◌≤◌, List, [], ◌∷◌, ◌++◌, length, get_or, drop, set, replicate, sym, refl, ap, ◌∙◌, inl, inr, arith}
 use mathlib.Core.Path.{fun_ext}
 use Rattle.std.proofs.lemmas.List.{length-set, get_or-set_same, get_or-set_other, get_or_append_left, get_or-append_right, get_or_past, drop-replicate, length-append, length-replicate}
 use Rattle.std.proofs.lemmas.Bool.{cases_eq, cases_lt}
@@ -9,8 +9,7 @@ use Rattle.theory.specs.Strong as theory
 use Rattle.theory.specs.Strong.{Hang, lifted, worths}
 use Rattle.theory.proofs.Valid.{Fine}
 use Rattle.theory.proofs.Worths.{over_hung, hung_more, hung_point, lift_at, lift_other}
-use Rattle.pruning.specs.Branches.{newest, by_node, entered}
-use Rattle.pruning.specs.declared.branch.Branch.{Branch}
+use Rattle.pruning.specs.Branches.{by_node, entered}
 use Rattle.pruning.proofs.Marking.{get_or_zeros}
 use Rattle.pruning.proofs.Rooting.{Inside, inside}
 
@@ -42,19 +41,19 @@ pub record Lifted (net : Net) (all : ℕ → ℕ) (bs : List theory.Branch) (tab
   pub long : length table ≡ 256
   pub whole : worths net bs (by_node table) ≡ all
 
-most_hung : (f : ℕ → ℕ) → ((v : ℕ) → f v ≤ 1000000000) → (root k : ℕ) (bs : List Branch) → over_hung root (newest k bs) f ≤ 1000000000 * k + 1000000000
-most_hung f h root zero bs = let e = h root in omega arith
-most_hung f h root (suc k) bs = let ih = most_hung f h root k bs in let e = h (get_or bs k (record { child = 0; parent = 0; edge = 0 })).child in omega arith
+most_hung : (f : ℕ → ℕ) → ((v : ℕ) → f v ≤ 1000000000) → (root : ℕ) (bs : List theory.Branch) → over_hung root bs f ≤ 1000000000 * length bs + 1000000000
+most_hung f h root [] = let e = h root in omega arith
+most_hung f h root (b ∷ bs) = let ih = most_hung f h root bs in let e = h b.child in omega arith
 
-pub lifting_starts : (net : Net) → Fine net → (k : ℕ) (bs : List Branch) (root : ℕ) → Hang net (entered net) root (newest k bs) → k ≤ 256 → (table : List ℕ) → length table ≡ 256 → by_node table ≡ prize net → Lifted net (worths net (newest k bs) (prize net)) (newest k bs) table
-lifting_starts net f k bs root h l table n is =
-    let most = most_hung (prize net) f.prizes root k bs in
+pub lifting_starts : (net : Net) → Fine net → (bs : List theory.Branch) (root : ℕ) → Hang net (entered net) root bs → length bs ≤ 256 → (table : List ℕ) → length table ≡ 256 → by_node table ≡ prize net → Lifted net (worths net bs (prize net)) bs table
+lifting_starts net f bs root h l table n is =
+    let most = most_hung (prize net) f.prizes root bs in
     record {
       root = root;
       hangs = h;
-      small = (let same = ap (over_hung root (newest k bs)) is in omega arith);
+      small = (let same = ap (over_hung root bs) is in omega arith);
       long = n;
-      whole = ap (worths net (newest k bs)) is;
+      whole = ap (worths net bs) is;
     }
 
 -- the last branch is taken off

@@ -8,18 +8,20 @@ ghost use Rattle.theory.specs.Prune.{coverage, marked, plan_of};
 ghost use Rattle.pruning.specs.Answers.{status_of, answer_of};
 
 use super::answer::{Answer, Coverage};
-use super::reads::{edge_at, edge_count, is_marked, node_count, prize_at};
+use super::reads::{edge_count, is_marked, node_count};
 use network::Network;
 
 // The cost of an edge if it is marked, else 0.
+#[tactic(auto, using(crate::proofs::EdgeReads::edge_reads))]
 fn cost_if(network: &Network, edges: &[u8], s: usize) -> u64
     requires { s < edge_count (net_of network.now) }
     ensures { result ≡ (if marked edges.now s then cost (net_of network.now) s else 0) }
 {
     if is_marked(edges, s) {
-        return edge_at(network, s).cost;
+        network.edges()[s].cost
+    } else {
+        0
     }
-    0
 }
 
 // The prize of a node if it is not marked, else 0.
@@ -28,42 +30,33 @@ fn prize_unless(network: &Network, nodes: &[u8], v: usize) -> u64
     ensures { result ≡ (if marked nodes.now v then 0 else prize (net_of network.now) v) }
 {
     if is_marked(nodes, v) {
-        return 0;
+        0
+    } else {
+        network.prizes()[v]
     }
-    prize_at(network, v)
 }
 
 fn total_cost(network: &Network, edges: &[u8]) -> u64
     ensures { result ≡ tree_cost (net_of network.now) (marked edges.now) }
 {
-    let mut sum = 0;
-    let count = edge_count(network);
-    for s in 0..count {
-        sum += cost_if(network, edges, s);
-    }
-    sum
+    (0..edge_count(network))
+        .map(|s| cost_if(network, edges, s))
+        .sum()
 }
 
 fn total_lost(network: &Network, nodes: &[u8]) -> u64
     ensures { result ≡ lost (net_of network.now) (marked nodes.now) }
 {
-    let mut sum = 0;
-    let count = node_count(network);
-    for v in 0..count {
-        sum += prize_unless(network, nodes, v);
-    }
-    sum
+    (0..node_count(network))
+        .map(|v| prize_unless(network, nodes, v))
+        .sum()
 }
 
 // How many of the first `n` are marked.
 fn count_marked(marks: &[u8], n: usize) -> usize
     ensures { result ≡ sum_to n (λ v. one (marked marks.now v)) }
 {
-    let mut sum = 0;
-    for v in 0..n {
-        sum += is_marked(marks, v) as usize;
-    }
-    sum
+    (0..n).filter(|&v| is_marked(marks, v)).count()
 }
 
 fn status(unserved: u64, left: usize) -> Coverage

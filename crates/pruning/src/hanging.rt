@@ -1,14 +1,15 @@
 // Rooting a tree: its branches, each parent before its children.
-ghost use Rattle.std.specs.Prelude.{◌≡◌, ◌<◌, ◌≤◌, ◌&&◌, [], length};
+ghost use Rattle.std.specs.Prelude.{◌≡◌, ◌<◌, ◌&&◌, []};
 ghost use Rattle.network.specs.Networks.{net_of};
 ghost use Rattle.theory.specs.Sums.{differ};
 ghost use Rattle.theory.specs.Nets.{node_count, edge_count, first_end, second_end};
 ghost use Rattle.theory.specs.Prune.{marked};
 ghost use Rattle.theory.specs.Strong.{branch, next_edge, hang_from};
-ghost use Rattle.pruning.specs.Branches.{branch_of, newest};
+ghost use Rattle.pruning.specs.Branches.{branch_of, newest_first};
 
 use super::branch::Branch;
-use super::reads::{edge_at, edge_count, has_one_end, is_marked, node_count};
+use super::reads::{edge_count, has_one_end, is_marked, node_count};
+use arrayvec::ArrayVec;
 use network::Network;
 
 // Whether an edge is marked and just one of its ends is placed.
@@ -23,55 +24,46 @@ fn reaches_out(network: &Network, edges: &[u8], placed: &[u8], s: usize) -> bool
 fn next_edge(network: &Network, edges: &[u8], placed: &[u8]) -> Option<usize>
     ensures { result ≡ next_edge (net_of network.now) (marked edges.now) (marked placed.now) }
 {
-    let count = edge_count(network);
-    for s in 0..count {
-        if reaches_out(network, edges, placed, s) {
-            return Some(s);
-        }
-    }
-    None
+    (0..edge_count(network)).find(|&s| reaches_out(network, edges, placed, s))
 }
 
 // The branch of an edge: its parent is the end that is placed.
+#[tactic(auto, using(crate::proofs::EdgeReads::edge_reads))]
 fn branch_at(network: &Network, placed: &[u8], s: usize) -> Branch
     requires { s < edge_count (net_of network.now) }
     ensures { branch_of result ≡ branch (net_of network.now) (marked placed.now) s }
 {
-    let link = edge_at(network, s);
-    if is_marked(placed, link.first) {
+    let edge = network.edges()[s];
+    if is_marked(placed, edge.first) {
         Branch {
-            child: link.second,
-            parent: link.first,
+            child: edge.second,
+            parent: edge.first,
             edge: s,
         }
     } else {
         Branch {
-            child: link.first,
-            parent: link.second,
+            child: edge.first,
+            parent: edge.second,
             edge: s,
         }
     }
 }
 
-// Writes the branches of the tree from its root on to the front of the list: how many there are.
-pub(crate) fn hang(network: &Network, edges: &[u8], root: usize, branches: &mut [Branch]) -> usize
-    requires root { root < 256 }
-    requires room { 256 ≤ length branches.old }
-    ensures within { result ≤ node_count (net_of network.now) }
-    ensures hung { newest result branches.new ≡ hang_from (node_count (net_of network.now)) (net_of network.now) (marked edges.now) root [] }
+// The branches of the tree from its root on.
+pub(crate) fn hang(network: &Network, edges: &[u8], root: usize) -> ArrayVec<Branch, 256>
+    requires { root < 256 }
+    ensures { newest_first result.items ≡ hang_from (node_count (net_of network.now)) (net_of network.now) (marked edges.now) root [] }
 {
     let mut placed = [0u8; 256];
     placed[root] = 1;
-    let nodes = node_count(network);
-    let mut count = 0;
-    while count < nodes {
+    let mut branches = ArrayVec::new();
+    for _ in 0..node_count(network) {
         let Some(s) = next_edge(network, edges, &placed) else {
-            return count;
+            break;
         };
         let next = branch_at(network, &placed, s);
-        branches[count] = next;
+        branches.push(next);
         placed[next.child] = 1;
-        count += 1;
     }
-    count
+    branches
 }

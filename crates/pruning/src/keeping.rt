@@ -3,26 +3,21 @@ ghost use Rattle.std.specs.Prelude.{◌≡◌, ◌<◌, ◌≤◌, ◌&&◌, ◌
 ghost use Rattle.network.specs.Networks.{net_of};
 ghost use Rattle.theory.specs.Nets.{edge_count, cost};
 ghost use Rattle.theory.specs.Prune.{marked};
-ghost use Rattle.theory.specs.Strong.{lowest_below, or_zero, greatest, kept};
-ghost use Rattle.pruning.specs.Branches.{newest, by_node, Rooted};
+ghost use Rattle.theory.specs.Strong.{lowest_below, greatest, kept};
+ghost use Rattle.pruning.specs.Branches.{newest_first, by_node, Rooted};
 ghost use Rattle.pruning.specs.Strong.{nodes_in};
 
 use super::branch::Branch;
 use super::hanging::hang;
-use super::reads::{edge_at, is_marked, node_count};
+use super::reads::{is_marked, node_count};
 use super::worths::net_worths;
 use network::Network;
 
-// The lowest-numbered of the first `n` that are marked; 0 where none is.
-fn lowest_marked(nodes: &[u8], n: usize) -> usize
-    ensures { result ≡ or_zero (lowest_below n (marked nodes.now)) }
+// The lowest-numbered of the first `n` that are marked.
+fn lowest_marked(nodes: &[u8], n: usize) -> Option<usize>
+    ensures { result ≡ lowest_below n (marked nodes.now) }
 {
-    for v in 0..n {
-        if is_marked(nodes, v) {
-            return v;
-        }
-    }
-    0
+    (0..n).find(|&v| is_marked(nodes, v))
 }
 
 // The node `v` if it is marked and worth more, else `best`.
@@ -52,6 +47,7 @@ fn best_node(nodes: &[u8], n: usize, table: &[u64], root: usize) -> usize
 }
 
 // Whether the child of a branch is kept: it is the best node, or its parent is kept and it is worth more than its edge costs.
+#[tactic(auto, using(crate::proofs::EdgeReads::edge_reads))]
 fn is_kept(network: &Network, table: &[u64], best: usize, above: &[u8], next: Branch) -> bool
     requires edge { next.edge < edge_count (net_of network.now) }
     requires child { next.child < length table.now }
@@ -60,7 +56,7 @@ fn is_kept(network: &Network, table: &[u64], best: usize, above: &[u8], next: Br
     if next.child == best {
         return true;
     }
-    let price = edge_at(network, next.edge).cost;
+    let price = network.edges()[next.edge].cost;
     is_marked(above, next.parent) && price < table[next.child]
 }
 
@@ -68,42 +64,31 @@ fn is_kept(network: &Network, table: &[u64], best: usize, above: &[u8], next: Br
 fn keep(
     network: &Network,
     branches: &[Branch],
-    count: usize,
     table: &[u64],
     root: usize,
     best: usize,
 ) -> [u8; 256]
-    requires room { count ≤ length branches.now }
-    requires rooted { Rooted (net_of network.now) (newest count branches.now) }
+    requires rooted { Rooted (net_of network.now) (newest_first branches.now) }
     requires root { root < 256 }
     requires table { 256 ≤ length table.now }
-    ensures long { length result ≡ 256 }
-    ensures value { marked result ≡ kept (net_of network.now) (by_node table.now) root best (newest count branches.now) }
+    ensures { marked result ≡ kept (net_of network.now) (by_node table.now) root best (newest_first branches.now) }
 {
     let mut above = [0u8; 256];
     above[root] = (root == best) as u8;
-    for i in 0..count {
-        let next = branches[i];
-        let stays = is_kept(network, table, best, &above, next);
-        above[next.child] = stays as u8;
+    for next in branches {
+        above[next.child] = is_kept(network, table, best, &above, *next) as u8;
     }
     above
 }
 
 // Marks the nodes of the tree that strong pruning keeps.
 pub(crate) fn strong_nodes(network: &Network, nodes: &[u8], edges: &[u8]) -> [u8; 256]
-    ensures long { length result ≡ 256 }
-    ensures value { marked result ≡ nodes_in (net_of network.now) (marked nodes.now) (marked edges.now) }
+    ensures { marked result ≡ nodes_in (net_of network.now) (marked nodes.now) (marked edges.now) }
 {
     let n = node_count(network);
-    let root = lowest_marked(nodes, n);
-    let mut branches = [Branch {
-        child: 0,
-        parent: 0,
-        edge: 0,
-    }; 256];
-    let count = hang(network, edges, root, &mut branches);
-    let table = net_worths(network, &branches, count);
+    let root = lowest_marked(nodes, n).unwrap_or(0);
+    let branches = hang(network, edges, root);
+    let table = net_worths(network, &branches);
     let best = best_node(nodes, n, &table, root);
-    keep(network, &branches, count, &table, root, best)
+    keep(network, &branches, &table, root, best)
 }

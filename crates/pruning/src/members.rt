@@ -56,16 +56,13 @@ fn open_up(shapes: &[Shape], d: usize, inside: &mut [u8], nodes: &mut [u8])
 pub(crate) fn members_of(shapes: &[Shape], c: usize) -> [u8; 256]
     requires listed { c < length shapes.now }
     requires few { length shapes.now ≤ 511 }
-    ensures long { length result ≡ 256 }
-    ensures value { (v : ℕ) → v < 256 → marked result v ≡ member shapes.now c v }
+    ensures { (v : ℕ) → v < 256 → marked result v ≡ member shapes.now c v }
 {
     let mut nodes = [0u8; 256];
     let mut inside = [0u8; 511];
     mark(&mut inside, c);
-    let mut left = c + 1;
-    while left > 0 {
-        left -= 1;
-        open_up(shapes, left, &mut inside, &mut nodes);
+    for d in (0..c + 1).rev() {
+        open_up(shapes, d, &mut inside, &mut nodes);
     }
     nodes
 }

@@ -1,10 +1,9 @@
 // What pruning leaves of a tree, written to the lists of the caller.
-ghost use Rattle.std.specs.Prelude.{◌≡◌, ℕ, ◌<◌, ◌≤◌, ◌&&◌, ◌++◌, length, drop};
+ghost use Rattle.std.specs.Prelude.{◌≡◌, ℕ, ◌<◌, ◌≤◌, ◌&&◌, length};
 ghost use Rattle.network.specs.Networks.{net_of};
 ghost use Rattle.theory.specs.Sums.{differ};
 ghost use Rattle.theory.specs.Nets.{node_count, edge_count, first_end, second_end};
 ghost use Rattle.theory.specs.Prune.{marked};
-ghost use Rattle.pruning.specs.Answers.{answer_of};
 ghost use Rattle.pruning.specs.Pruned.{heeded, member, leaving, prunable_at, next_pruned, except, pruned_in, plan_in, prune_answer};
 ghost use Rattle.pruning.specs.Written.{edges_among, too_short, unless_short};
 
@@ -12,9 +11,10 @@ use super::answer::Answer;
 use super::members::members_of;
 use super::reads::{edge_count, has_one_end, is_marked, node_count};
 use super::shape::Shape;
-use super::writing::{stays, write_nodes, write_plan};
+use super::writing::{check_room, stays, write_plan};
 use network::Network;
 use refusal::Refusal;
+use std::array;
 
 // Whether an edge of the tree has just one end among the members.
 fn leaves(network: &Network, chosen: &[u8], nodes: &[u8], members: &[u8], s: usize) -> bool
@@ -60,12 +60,7 @@ fn next_cluster(network: &Network, shapes: &[Shape], chosen: &[u8], nodes: &[u8]
     requires { length shapes.now ≤ 511 }
     ensures { result ≡ next_pruned (net_of network.now) shapes.now (marked chosen.now) (marked nodes.now) }
 {
-    for c in 0..shapes.len() {
-        if is_prunable(network, shapes, chosen, nodes, c) {
-            return Some(c);
-        }
-    }
-    None
+    (0..shapes.len()).find(|&c| is_prunable(network, shapes, chosen, nodes, c))
 }
 
 // Whether a place is among the nodes and not among the members.
@@ -75,36 +70,24 @@ fn is_left(nodes: &[u8], members: &[u8], v: usize) -> bool
     is_marked(nodes, v) && !is_marked(members, v)
 }
 
-// Of the first `n`, marks those that are among the nodes and not among the members.
-fn take_away(nodes: &[u8], members: &[u8], n: usize) -> [u8; 256]
-    requires { n ≤ 256 }
-    ensures long { length result ≡ 256 }
-    ensures value { (v : ℕ) → v < n → marked result v ≡ except (marked nodes.now) (marked members.now) v }
+// Marks the places that are among the nodes and not among the members.
+fn take_away(nodes: &[u8], members: &[u8]) -> [u8; 256]
+    ensures { (v : ℕ) → v < 256 → marked result v ≡ except (marked nodes.now) (marked members.now) v }
 {
-    let mut rest = [0u8; 256];
-    for v in 0..n {
-        rest[v] = is_left(nodes, members, v) as u8;
-    }
-    rest
+    array::from_fn(|v| is_left(nodes, members, v) as u8)
 }
 
 // Marks the nodes of the tree that pruning leaves.
 fn pruned_nodes(network: &Network, shapes: &[Shape], chosen: &[u8], tree_nodes: &[u8]) -> [u8; 256]
     requires { length shapes.now ≤ 511 }
-    ensures long { length result ≡ 256 }
-    ensures value { (v : ℕ) → v < node_count (net_of network.now) → marked result v ≡ pruned_in (net_of network.now) shapes.now (marked tree_nodes.now) (marked chosen.now) v }
+    ensures { (v : ℕ) → v < node_count (net_of network.now) → marked result v ≡ pruned_in (net_of network.now) shapes.now (marked tree_nodes.now) (marked chosen.now) v }
 {
-    let n = node_count(network);
-    let mut nodes = [0u8; 256];
-    write_nodes(tree_nodes, n, &mut nodes);
-    let mut turns = n;
-    while turns > 0 {
+    let mut nodes = array::from_fn(|v| is_marked(tree_nodes, v) as u8);
+    for _ in 0..node_count(network) {
         let Some(c) = next_cluster(network, shapes, chosen, &nodes) else {
-            return nodes;
+            break;
         };
-        let members = members_of(shapes, c);
-        nodes = take_away(&nodes, &members, n);
-        turns -= 1;
+        nodes = take_away(&nodes, &members_of(shapes, c));
     }
     nodes
 }
@@ -118,25 +101,6 @@ fn first_shapes(shapes: &[Shape]) -> &[Shape]
         return shapes;
     }
     &shapes[0..511]
-}
-
-// Writes what pruning leaves of a tree to the front of two lists that are long enough.
-fn prune_into(
-    network: &Network,
-    shapes: &[Shape],
-    chosen: &[u8],
-    tree_nodes: &[u8],
-    nodes_out: &mut [u8],
-    edges_out: &mut [u8],
-) -> Answer
-    requires nodes { node_count (net_of network.now) ≤ length nodes_out.old }
-    requires edges { edge_count (net_of network.now) ≤ length edges_out.old }
-    ensures answer { result ≡ answer_of (plan_in (net_of network.now) (heeded shapes.now) (marked tree_nodes.now) (marked chosen.now)) }
-    ensures nodes { nodes_out.new ≡ (plan_in (net_of network.now) (heeded shapes.now) (marked tree_nodes.now) (marked chosen.now)).node_marks ++ drop (node_count (net_of network.now)) nodes_out.old }
-    ensures edges { edges_out.new ≡ (plan_in (net_of network.now) (heeded shapes.now) (marked tree_nodes.now) (marked chosen.now)).edge_marks ++ drop (edge_count (net_of network.now)) edges_out.old }
-{
-    let nodes = pruned_nodes(network, first_shapes(shapes), chosen, tree_nodes);
-    write_plan(network, &nodes, chosen, nodes_out, edges_out)
 }
 
 // Of the tree with the marked nodes and the chosen edges among them, takes away inactive clusters that just one edge leaves,
@@ -154,10 +118,7 @@ pub fn prune_tree(
     ensures nodes { nodes_out.new ≡ unless_short (too_short (net_of network.now) nodes_out.old edges_out.old) (plan_in (net_of network.now) (heeded shapes.now) (marked tree_nodes.now) (marked chosen.now)).node_marks (node_count (net_of network.now)) nodes_out.old }
     ensures edges { edges_out.new ≡ unless_short (too_short (net_of network.now) nodes_out.old edges_out.old) (plan_in (net_of network.now) (heeded shapes.now) (marked tree_nodes.now) (marked chosen.now)).edge_marks (edge_count (net_of network.now)) edges_out.old }
 {
-    let few_nodes = nodes_out.len() < node_count(network);
-    let few_edges = edges_out.len() < edge_count(network);
-    if few_nodes || few_edges {
-        return Err(Refusal::ListTooShort);
-    }
-    Ok(prune_into(network, shapes, chosen, tree_nodes, nodes_out, edges_out))
+    check_room(network, nodes_out, edges_out)?;
+    let nodes = pruned_nodes(network, first_shapes(shapes), chosen, tree_nodes);
+    Ok(write_plan(network, &nodes, chosen, nodes_out, edges_out))
 }

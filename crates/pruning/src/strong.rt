@@ -1,36 +1,16 @@
 // The strong plan in a tree, written to the lists of the caller.
-ghost use Rattle.std.specs.Prelude.{◌≡◌, ◌≤◌, ◌++◌, length, drop};
+ghost use Rattle.std.specs.Prelude.{◌≡◌};
 ghost use Rattle.network.specs.Networks.{net_of};
 ghost use Rattle.theory.specs.Nets.{node_count, edge_count};
 ghost use Rattle.theory.specs.Prune.{marked};
-ghost use Rattle.pruning.specs.Answers.{answer_of};
 ghost use Rattle.pruning.specs.Strong.{strong_plan_in, strong_answer};
 ghost use Rattle.pruning.specs.Written.{too_short, unless_short};
 
 use super::answer::Answer;
 use super::keeping::strong_nodes;
-use super::reads::{edge_count, node_count};
-use super::writing::write_plan;
+use super::writing::{check_room, write_plan};
 use network::Network;
 use refusal::Refusal;
-
-// Writes the strong plan of a tree to the front of two lists that are long enough.
-fn prune_into(
-    network: &Network,
-    tree_nodes: &[u8],
-    tree_edges: &[u8],
-    nodes_out: &mut [u8],
-    edges_out: &mut [u8],
-) -> Answer
-    requires nodes { node_count (net_of network.now) ≤ length nodes_out.old }
-    requires edges { edge_count (net_of network.now) ≤ length edges_out.old }
-    ensures answer { result ≡ answer_of (strong_plan_in (net_of network.now) (marked tree_nodes.now) (marked tree_edges.now)) }
-    ensures nodes { nodes_out.new ≡ (strong_plan_in (net_of network.now) (marked tree_nodes.now) (marked tree_edges.now)).node_marks ++ drop (node_count (net_of network.now)) nodes_out.old }
-    ensures edges { edges_out.new ≡ (strong_plan_in (net_of network.now) (marked tree_nodes.now) (marked tree_edges.now)).edge_marks ++ drop (edge_count (net_of network.now)) edges_out.old }
-{
-    let nodes = strong_nodes(network, tree_nodes, tree_edges);
-    write_plan(network, &nodes, tree_edges, nodes_out, edges_out)
-}
 
 // Of the tree with the marked nodes and edges, writes the strong plan to the front of the two lists, and answers for it.
 // A list shorter than the nodes or the edges refuses, and nothing is written.
@@ -45,10 +25,7 @@ pub fn strong_prune_tree(
     ensures nodes { nodes_out.new ≡ unless_short (too_short (net_of network.now) nodes_out.old edges_out.old) (strong_plan_in (net_of network.now) (marked tree_nodes.now) (marked tree_edges.now)).node_marks (node_count (net_of network.now)) nodes_out.old }
     ensures edges { edges_out.new ≡ unless_short (too_short (net_of network.now) nodes_out.old edges_out.old) (strong_plan_in (net_of network.now) (marked tree_nodes.now) (marked tree_edges.now)).edge_marks (edge_count (net_of network.now)) edges_out.old }
 {
-    let few_nodes = nodes_out.len() < node_count(network);
-    let few_edges = edges_out.len() < edge_count(network);
-    if few_nodes || few_edges {
-        return Err(Refusal::ListTooShort);
-    }
-    Ok(prune_into(network, tree_nodes, tree_edges, nodes_out, edges_out))
+    check_room(network, nodes_out, edges_out)?;
+    let nodes = strong_nodes(network, tree_nodes, tree_edges);
+    Ok(write_plan(network, &nodes, tree_edges, nodes_out, edges_out))
 }

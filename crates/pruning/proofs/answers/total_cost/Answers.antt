@@ -1,26 +1,25 @@
-use Rattle.std.proofs.Common.{cond, arith}
+use Rattle.std.proofs.Common.{cond, rules, tests, ap, ◌∙◌, arith}
 use Rattle.network.specs.Networks.{net_of}
+use Rattle.theory.specs.Sums.{sum_to}
 use Rattle.theory.specs.Nets.{cost}
 use Rattle.theory.specs.Prune.{marked}
 use Rattle.theory.proofs.Valid.{fine}
-use Rattle.pruning.proofs.Totals.{sum_more, either_most}
+use Rattle.pruning.proofs.Totals.{either_most}
+use Rattle.pruning.proofs.Ranges.{sum_below, sum_fits}
 use Rattle.pruning.proofs.answers.total_cost.Goals as goal
 
-pub overflow_add-sum : goal.overflow_add-sum
-overflow_add-sum c =
+pub sum-requires-clause-fits : goal.sum-requires-clause-fits
+sum-requires-clause-fits c =
     let net = net_of c.args.network.now in
-    let i = c.loop-s.s in
+    let E = marked c.args.edges.now in
     let f = fine net c.args.network.now.valid in
     let few = f.few_edges in
-    let most = either_most (marked c.args.edges.now i) (cost net i) 0 1000000000 (f.costs i) (omega arith) in
-    let inv = c.loop-s.invariant.1 in
-    omega arith
+    let n = c.edge_count.ensures in
+    sum_fits (λ s. cond (E s) (cost net s) 0) c.edge_count.result c.map.result c.map.ensures.source c.map.ensures.closure (λ x y q k. search (rules, tests)) 1000000000 _ (λ s. either_most (E s) (cost net s) 0 1000000000 (f.costs s) (omega arith)) (omega arith)
 
-pub loop-s-preserved : goal.loop-s-preserved
-loop-s-preserved c =
+pub returns : goal.returns
+returns c =
     let net = net_of c.args.network.now in
-    let i = c.loop-s.s in
-    let f = fine net c.args.network.now.valid in
-    let most = either_most (marked c.args.edges.now i) (cost net i) 0 1000000000 (f.costs i) (omega arith) in
-    let inv = c.loop-s.invariant.1 in
-    (sum_more (λ s. cond (marked c.args.edges.now s) (cost net s) 0) i c.loop-s.sum c.cost_if-sum.result c.loop-s.invariant.0 c.cost_if-sum.ensures, omega arith)
+    let E = marked c.args.edges.now in
+    sum_below (λ s. cond (E s) (cost net s) 0) c.edge_count.result c.map.result c.map.ensures.source c.map.ensures.closure (λ x y q k. search (rules, tests)) c.sum.result c.sum.ensures.ran
+    ∙ ap (λ n. sum_to n (λ s. cond (E s) (cost net s) 0)) c.edge_count.ensures

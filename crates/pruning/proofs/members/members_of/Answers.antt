@@ -1,4 +1,4 @@
-use Rattle.std.proofs.Common.{◌≡◌, ℕ, suc, ◌+◌, ◌-◌, ◌||◌, eqb, replicate, refl, ap, ◌∙◌, arith}
+use Rattle.std.proofs.Common.{◌≡◌, ℕ, suc, ◌+◌, ◌-◌, ◌||◌, eqb, replicate, ap, ◌∙◌, arith}
 use Rattle.std.proofs.lemmas.List.{length-replicate}
 use Rattle.theory.specs.Prune.{marked}
 use Rattle.pruning.specs.Pruned.{member, held_below}
@@ -6,30 +6,19 @@ use Rattle.pruning.proofs.Marking.{get_or_zeros}
 use Rattle.pruning.proofs.Opening.{held_none, held_more}
 use Rattle.pruning.proofs.members.members_of.Goals as goal
 
-pub loop-left-init : goal.loop-left-init
-loop-left-init c =
+pub loop-d-init : goal.loop-d-init
+loop-d-init c =
     let shapes = c.args.shapes.now in
     let d = c.args.c in
     let long = length-replicate {A = ℕ} 511 0 in
-    let kept = c.mark.auto.marks in (
-      refl,
-      omega arith,
-      omega arith,
-      λ v l.
-          (λ i. eqb (get_or_zeros 256 v i) 1 || held_more shapes v (marked (replicate 511 0)) (marked c.mark.new.marks) d (d + 1) (omega arith) (λ u b. c.mark.ensures u (omega arith)) i)
-          ∙ ap (λ b. b || member shapes d v) (held_none shapes v (marked (replicate 511 0)) (d + 1) (λ u b. ap (λ x. eqb x 1) (get_or_zeros 511 u))),
-    )
+    let few = c.requires.few in
+    λ v l.
+    (λ i. eqb (get_or_zeros 256 v i) 1 || held_more shapes v (marked (replicate 511 0)) (marked c.mark.new.marks) d (d + 1) (omega arith) (λ u b. c.mark.ensures u (omega arith)) i)
+    ∙ ap (λ b. b || member shapes d v) (held_none shapes v (marked (replicate 511 0)) (d + 1) (λ u b. ap (λ x. eqb x 1) (get_or_zeros 511 u)))
 
-pub loop-left-preserved : goal.loop-left-preserved
-loop-left-preserved c =
+pub loop-d-preserved : goal.loop-d-preserved
+loop-d-preserved c =
     let shapes = c.args.shapes.now in
-    let d = c.loop-left.left - 1 in
-    let inv = c.loop-left.invariant in
-    let nodes-kept = c.open_up.auto.nodes in
-    let inside-kept = c.open_up.auto.inside in
-    let next : suc d ≡ c.loop-left.left = omega arith in (
-      omega arith,
-      omega arith,
-      omega arith,
-      λ v l. c.open_up.ensures v (omega arith) ∙ ap (λ k. marked c.loop-left.nodes v || held_below shapes k (marked c.loop-left.inside) v) next ∙ inv.3 v l,
-    )
+    let d = c.loop-d.d - 1 in
+    let next : suc d ≡ c.loop-d.d = omega arith in
+    λ v l. c.open_up.ensures v (omega arith) ∙ ap (λ k. marked c.loop-d.nodes v || held_below shapes k (marked c.loop-d.inside) v) next ∙ c.loop-d.invariant v l

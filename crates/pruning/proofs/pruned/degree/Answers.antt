@@ -13,4 +13,4 @@ returns c =
     let E = edges_among net (marked c.args.chosen.now) (marked c.args.nodes.now) in
     let f = fine net c.args.network.now.valid in
     let few = f.few_nodes in
-    c.count_leaving.ensures ∙ leaving_same net f E E (marked c.members_of-members.result) (member c.args.shapes.now c.args.c) (λ s l. refl) (λ v l. c.members_of-members.ensures.value v (omega arith))
+    c.count_leaving.ensures ∙ leaving_same net f E E (marked c.members_of-members.result) (member c.args.shapes.now c.args.c) (λ s l. refl) (λ v l. c.members_of-members.ensures v (omega arith))

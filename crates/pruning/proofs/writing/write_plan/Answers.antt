@@ -1,4 +1,5 @@
-use Rattle.std.proofs.Common.{◌≡◌, ◌++◌, drop, ap, ◌∙◌}
+use Rattle.std.proofs.Common.{◌++◌, drop, ap, ◌∙◌, rules, tests, arith}
+use Rattle.std.proofs.lemmas.List.{length-take-le}
 use Rattle.network.specs.Networks.{net_of}
 use Rattle.theory.specs.Nets.{node_count, edge_count}
 use Rattle.theory.specs.Prune.{marks, marked}
@@ -7,20 +8,18 @@ use Rattle.pruning.specs.Written.{edges_among}
 use Rattle.pruning.proofs.Written.{marked_front, plan_same}
 use Rattle.pruning.proofs.writing.write_plan.Goals as goal
 
-pub returns : goal.returns
-returns c =
+pub returns-clause-answer : goal.returns-clause-answer
+returns-clause-answer c =
     let net = net_of c.args.network.now in
-    let E = marked c.args.edges.now in
     let K = marked c.args.nodes.now in
-    let n = c.node_count.ensures in
-    let nodes : c.write_nodes.new.out ≡ marks (node_count net) K ++ drop (node_count net) c.args.nodes_out.now =
-    c.write_nodes.ensures ∙ ap (λ m. marks m K ++ drop m c.args.nodes_out.now) n in
-    let edges = c.write_edges.ensures in
-    record {
-      answer = c.plan_answer.ensures
-          ∙ ap answer_of (plan_same net (marked c.write_nodes.new.out) K (marked c.write_edges.new.out) (edges_among net E K)
-          (λ v l. ap (λ o. marked o v) nodes ∙ marked_front (node_count net) K (drop (node_count net) c.args.nodes_out.now) v l)
-          (λ s l. ap (λ o. marked o s) edges ∙ marked_front (edge_count net) (edges_among net E K) (drop (edge_count net) c.args.edges_out.now) s l));
-      nodes = nodes;
-      edges = edges;
-    }
+    let E = edges_among net (marked c.args.edges.now) K in
+    let n = length-take-le c.node_count.result c.args.nodes_out.now (omega (arith, c.requires.nodes)) ∙ c.node_count.ensures in
+    let m = length-take-le c.edge_count.result c.args.edges_out.now (omega (arith, c.requires.edges)) ∙ c.edge_count.ensures in
+    let nodes = c.write_marks.ensures K (λ v b k. search (rules, tests)) ∙ ap (λ j. marks j K) n in
+    let edges = c.write_marks-2.ensures E (λ s b k. search (rules, tests)) ∙ ap (λ j. marks j E) m in
+    let nodes-rest = drop c.node_count.result c.args.nodes_out.now in
+    let edges-rest = drop c.edge_count.result c.args.edges_out.now in
+    c.plan_answer.ensures
+    ∙ ap answer_of (plan_same net (marked (c.write_marks.new.out ++ nodes-rest)) K (marked (c.write_marks-2.new.out ++ edges-rest)) E
+    (λ v l. ap (λ ms. marked (ms ++ nodes-rest) v) nodes ∙ marked_front (node_count net) K nodes-rest v l)
+    (λ s l. ap (λ ms. marked (ms ++ edges-rest) s) edges ∙ marked_front (edge_count net) E edges-rest s l))
