@@ -18,6 +18,7 @@ use Rattle.growth.specs.Refreshed.{dues_after, Right, is_at, newest, touched, ch
 use Rattle.growth.specs.declared.tables.Tables.{Tables}
 use Rattle.growth.proofs.Catching.{all_right, none_beyond}
 use Rattle.growth.proofs.Entries.{cluster_known}
+use Rattle.growth.specs.NodeTables.{cluster_at}
 
 -- the three clusters of a merge, in any order
 turned : (x y z : Bool) → (z || (x || (y || false))) ≡ (x || (y || (z || false)))
@@ -78,11 +79,11 @@ module _ (net : Net) (v : valid net ≡ true) (k to number : ℕ) (going : ended
     low_stays : (w : ℕ) → w < node_count net → maximal_of next.slots w ≡ maximal_of ts w
     low_stays w l = stepped.memberships w l ∙ ap (λ ms. cond (among (maximal_of ts w) ms) (length ts) (maximal_of ts w)) (cond-true (ltb number 511) [] _ (lt-ltb number 511 low))
 
-    low_away : (w : ℕ) → w < node_count net → eqb (get_or m.nodes.cluster_of w 0) (changed m number) ≡ false → among (maximal_of ts w) (event_clusters net ts number) ≡ false
+    low_away : (w : ℕ) → w < node_count net → eqb (cluster_at m.nodes.list w) (changed m number) ≡ false → among (maximal_of ts w) (event_clusters net ts number) ≡ false
     low_away w l e =
         ap (among (maximal_of ts w)) low_clusters
         ∙ or_from (eqb (maximal_of ts w) number) false
-        (ap (λ c. eqb c number) (sym (shows.shown.memberships w l ∙ low_stays w l)) ∙ ap (eqb (get_or m.nodes.cluster_of w 0)) (sym (cond-true (ltb number 511) number (newest m) (lt-ltb number 511 low))) ∙ e)
+        (ap (λ c. eqb c number) (sym (shows.shown.memberships w l ∙ low_stays w l)) ∙ ap (eqb (cluster_at m.nodes.list w)) (sym (cond-true (ltb number 511) number (newest m) (lt-ltb number 511 low))) ∙ e)
         refl
 
   module _ (high : 511 ≤ number) where
@@ -117,21 +118,21 @@ module _ (net : Net) (v : valid net ≡ true) (k to number : ℕ) (going : ended
     moved : (w : ℕ) → w < node_count net → maximal_of next.slots w ≡ cond (eqb (maximal_of ts w) p || (eqb (maximal_of ts w) q || false)) (length ts) (maximal_of ts w)
     moved w l = stepped.memberships w l ∙ ap (λ ms. cond (among (maximal_of ts w) ms) (length ts) (maximal_of ts w)) (cond-false (ltb number 511) [] (p ∷ q ∷ []) (le-ltb number 511 high))
 
-    high_away : (w : ℕ) → w < node_count net → eqb (get_or m.nodes.cluster_of w 0) (changed m number) ≡ false → among (maximal_of ts w) (event_clusters net ts number) ≡ false
+    high_away : (w : ℕ) → w < node_count net → eqb (cluster_at m.nodes.list w) (changed m number) ≡ false → among (maximal_of ts w) (event_clusters net ts number) ≡ false
     high_away w l e = ap (among (maximal_of ts w)) high_clusters ∙ or_last (eqb (maximal_of ts w) p) (eqb (maximal_of ts w) q) (eqb (maximal_of ts w) (length ts)) (by (cases_Bool (eqb (maximal_of ts w) p || (eqb (maximal_of ts w) q || false)))) beyond
       where
         beyond : eqb (maximal_of ts w) (length ts) ≡ false
         beyond = ne_eqb (maximal_of ts w) (length ts) (let b = (formed.memberships w l).1 in omega arith)
 
         differs : eqb (maximal_of next.slots w) (length ts) ≡ false
-        differs = ap (λ c. eqb c (length ts)) (sym (shows.shown.memberships w l)) ∙ ap (eqb (get_or m.nodes.cluster_of w 0)) (sym (cond-false (ltb number 511) number (newest m) (le-ltb number 511 high) ∙ newest_is)) ∙ e
+        differs = ap (λ c. eqb c (length ts)) (sym (shows.shown.memberships w l)) ∙ ap (eqb (cluster_at m.nodes.list w)) (sym (cond-false (ltb number 511) number (newest m) (le-ltb number 511 high) ∙ newest_is)) ∙ e
 
         by : ((eqb (maximal_of ts w) p || (eqb (maximal_of ts w) q || false)) ≡ true) ⊎ ((eqb (maximal_of ts w) p || (eqb (maximal_of ts w) q || false)) ≡ false) → (eqb (maximal_of ts w) p || (eqb (maximal_of ts w) q || false)) ≡ false
         by (inl t) = absurd (eqb-false (maximal_of next.slots w) (length ts) differs (moved w l ∙ cond-true _ (length ts) (maximal_of ts w) t))
         by (inr f) = f
 
   -- an end that is not at the event now was not at it before
-  away : (w : ℕ) → w < node_count net → eqb (get_or m.nodes.cluster_of w 0) (changed m number) ≡ false → among (maximal_of ts w) (event_clusters net ts number) ≡ false
+  away : (w : ℕ) → w < node_count net → eqb (cluster_at m.nodes.list w) (changed m number) ≡ false → among (maximal_of ts w) (event_clusters net ts number) ≡ false
   away w l e = ⊎_elim (λ h. low_away h w l e) (λ h. high_away h w l e) (cases_lt number 511)
 
   untouched : (c : ℕ) → among c (touched m number) ≡ false → among c (event_clusters net ts number) ≡ false
@@ -147,7 +148,7 @@ module _ (net : Net) (v : valid net ≡ true) (k to number : ℕ) (going : ended
     right_edge : (s : ℕ) → s < edge_count net → Right dues U (511 + s)
     right_edge s l = ⊎_elim
         (fresh.edges s l)
-        (λ e. let both = or_parts (eqb (get_or m.nodes.cluster_of (first_end net s) 0) (changed m number)) (eqb (get_or m.nodes.cluster_of (second_end net s) 0) (changed m number)) e in
+        (λ e. let both = or_parts (eqb (cluster_at m.nodes.list (first_end net s)) (changed m number)) (eqb (cluster_at m.nodes.list (second_end net s)) (changed m number)) e in
         let few = (fine net v).few_edges in
         fresh.keeps (511 + s) (ap (λ t. get_or t (511 + s) None) before ∙ sym (kept.edges s (omega arith) (away (first_end net s) ((fine net v).firsts s l) both.0) (away (second_end net s) ((fine net v).seconds s l) both.1))))
         (cases_Bool (is_at net m (changed m number) s))

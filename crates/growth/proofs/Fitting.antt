@@ -21,6 +21,7 @@ use Rattle.growth.specs.Shown.{ShowsAll}
 use Rattle.growth.specs.declared.tables.Tables.{Tables}
 use Rattle.growth.proofs.Counting.{growing_count}
 use Rattle.growth.proofs.Entries.{entered, edge_known}
+use Rattle.growth.specs.NodeTables.{cluster_at, depth_at}
 
 -- what holds of every cluster holds of the one of a number
 pub every_at : (P : Cluster → Type 0) (ts : List Slot) → Every P ts → (c : ℕ) (u : Cluster) → cluster_of ts c ≡ Some u → P u
@@ -64,7 +65,7 @@ module _ (net : Net) (v : valid net ≡ true) (k : ℕ) (t : Tables) (shows : Sh
     pub moats_fit : (c : ℕ) → (get_or t.family.clusters c vacant).moat + (to - t.time) < 2 ^ 64
     moats_fit c = let a = moat_small c in let b = to_small in omega arith
 
-    pub depths_fit : (w : ℕ) → w < node_count net → get_or t.nodes.depths w 0 + (to - t.time) < 2 ^ 64
+    pub depths_fit : (w : ℕ) → w < node_count net → depth_at t.nodes.list w + (to - t.time) < 2 ^ 64
     depths_fit w l = let a = shows.shown.deep w l in let b = small.depths w in let d = small.time in let e = to_small in omega arith
 
     pub total_fits : t.total + (to - t.time) * growing t.family.clusters < 2 ^ 64
@@ -87,10 +88,10 @@ module _ (net : Net) (v : valid net ≡ true) (k : ℕ) (t : Tables) (shows : Sh
     second_known : 511 ≤ number → second_end net (number - 511) < node_count net
     second_known high = (fine net v).seconds (number - 511) (edge_known net (fine net v) (grow net k).time (grow net k).slots to number is high)
 
-    pub first_is : 511 ≤ number → get_or t.nodes.cluster_of (first_end net (number - 511)) 0 ≡ maximal_of (grow net k).slots (first_end net (number - 511))
+    pub first_is : 511 ≤ number → cluster_at t.nodes.list (first_end net (number - 511)) ≡ maximal_of (grow net k).slots (first_end net (number - 511))
     first_is high = shows.shown.memberships (first_end net (number - 511)) (first_known high)
 
-    pub second_is : 511 ≤ number → get_or t.nodes.cluster_of (second_end net (number - 511)) 0 ≡ maximal_of (grow net k).slots (second_end net (number - 511))
+    pub second_is : 511 ≤ number → cluster_at t.nodes.list (second_end net (number - 511)) ≡ maximal_of (grow net k).slots (second_end net (number - 511))
     second_is high = shows.shown.memberships (second_end net (number - 511)) (second_known high)
 
     pub first_below : 511 ≤ number → maximal_of (grow net k).slots (first_end net (number - 511)) < 511

@@ -16,7 +16,7 @@ use Rattle.theory.specs.ByNumber.{Formed, Stepped, merging}
 use Rattle.theory.proofs.Laws.{formed_by_number, step_by_number}
 use Rattle.theory.proofs.Valid.{fine}
 use Rattle.growth.specs.Records.{vacant, is_growing, widened, inactivated, enclosed, at_record, merged_records}
-use Rattle.growth.specs.NodeTables.{regrouped}
+use Rattle.growth.specs.NodeTables.{regrouped, cluster_at, depth_at, unplaced, moved}
 use Rattle.growth.specs.Events.{Passed}
 use Rattle.growth.specs.Shown.{phase_shown, record_shown, ShowsAll}
 use Rattle.growth.specs.declared.cluster.Cluster.{Cluster}
@@ -107,10 +107,10 @@ module _ (net : Net) (v : valid net ≡ true) (k to number : ℕ) (going : ended
       (λ h. get_or_past m.family.clusters c vacant (let w = long in omega arith))
       (cases_lt c 511)
 
-  deepened : (w : ℕ) → w < node_count net → get_or m.nodes.depths w 0 ≡ depth next.slots w
+  deepened : (w : ℕ) → w < node_count net → depth_at m.nodes.list w ≡ depth next.slots w
   deepened w l =
       passed.depths w l
-      ∙ (λ i. shows.shown.deep w l i + cond ((grows_shown net t st formed shows (get_or t.nodes.cluster_of w 0) ∙ ap (active_at ts) (shows.shown.memberships w l)) i) (same_by i) 0)
+      ∙ (λ i. shows.shown.deep w l i + cond ((grows_shown net t st formed shows (cluster_at t.nodes.list w) ∙ ap (active_at ts) (shows.shown.memberships w l)) i) (same_by i) 0)
       ∙ sym (stepped.depths w l)
 
   totalled : m.total ≡ total next
@@ -138,8 +138,8 @@ module _ (net : Net) (v : valid net ≡ true) (k to number : ℕ) (going : ended
       shown = record {
         count = count ∙ passed.formed ∙ shows.shown.count ∙ sym still_count;
         records = λ c l. ap (λ r. get_or r c vacant) clusters ∙ at c (let e = still_count in omega arith);
-        memberships = λ w l. ap (λ n. get_or n.cluster_of w 0) nodes ∙ ap (λ r. get_or r w 0) passed.memberships ∙ shows.shown.memberships w l ∙ sym (stays w l);
-        deep = λ w l. ap (λ n. get_or n.depths w 0) nodes ∙ deepened w l;
+        memberships = λ w l. ap (λ n. cluster_at n.list w) nodes ∙ passed.memberships w ∙ shows.shown.memberships w l ∙ sym (stays w l);
+        deep = λ w l. ap (λ n. depth_at n.list w) nodes ∙ deepened w l;
         edges = λ s _. all_chosen s;
         time = time ∙ timed;
         steps = steps ∙ counted;
@@ -221,10 +221,13 @@ module _ (net : Net) (v : valid net ≡ true) (k to number : ℕ) (going : ended
         ∙ cond-false (eqb c p || (eqb c q || false)) _ _ (or_from (eqb c p) (eqb c q || false) (ne_eqb c p (let a = p_below in omega arith)) (or_from (eqb c q) false (ne_eqb c q (let a = q_below in omega arith)) refl))
         ∙ passed_vacant c (omega arith)
 
-    regrouped_at : (w : ℕ) → w < node_count net → get_or (map (regrouped p q (length ts)) m.nodes.cluster_of) w 0 ≡ maximal_of next.slots w
+    moved_at : (w : ℕ) → w < node_count net → get_or (map (moved p q (length ts)) m.nodes.list) w unplaced ≡ moved p q (length ts) (get_or m.nodes.list w unplaced)
+    moved_at w l = get_or-map (moved p q (length ts)) m.nodes.list w unplaced unplaced (let e = m.nodes.whole in let few = (fine net v).few_nodes in omega arith)
+
+    regrouped_at : (w : ℕ) → w < node_count net → cluster_at (map (moved p q (length ts)) m.nodes.list) w ≡ maximal_of next.slots w
     regrouped_at w l =
-        get_or-map (regrouped p q (length ts)) m.nodes.cluster_of w 0 0 (let e = m.nodes.clusters_whole in let few = (fine net v).few_nodes in omega arith)
-        ∙ ap (regrouped p q (length ts)) (ap (λ r. get_or r w 0) passed.memberships ∙ shows.shown.memberships w l)
+        ap (λ n. n.cluster) (moved_at w l)
+        ∙ ap (regrouped p q (length ts)) (passed.memberships w ∙ shows.shown.memberships w l)
         ∙ ap (λ b. cond (eqb (maximal_of ts w) p || b) (length ts) (maximal_of ts w)) (sym (or_none (eqb (maximal_of ts w) q)))
         ∙ ap (λ ms. cond (among (maximal_of ts w) ms) (length ts) (maximal_of ts w)) (sym merges)
         ∙ sym (stepped.memberships w l)
@@ -238,14 +241,14 @@ module _ (net : Net) (v : valid net ≡ true) (k to number : ℕ) (going : ended
         ∙ ap (λ b. one (chosen ts s || (not b && eqb edge s))) (sym (le-ltb number 511 high))
         ∙ ap one (sym (stepped.edges s))
 
-    pub shows_merged : length ts < 511 → u.family.clusters ≡ records → u.family.formed ≡ length ts + 1 → u.nodes.cluster_of ≡ map (regrouped p q (length ts)) m.nodes.cluster_of →
-        u.nodes.depths ≡ m.nodes.depths → u.chosen.marks ≡ set m.chosen.marks edge 1 → u.time ≡ m.time → u.steps ≡ m.steps → u.total ≡ m.total → ShowsAll net u next
-    shows_merged room clusters count memberships depths edges time steps moats = record {
+    pub shows_merged : length ts < 511 → u.family.clusters ≡ records → u.family.formed ≡ length ts + 1 → u.nodes.list ≡ map (moved p q (length ts)) m.nodes.list →
+        u.chosen.marks ≡ set m.chosen.marks edge 1 → u.time ≡ m.time → u.steps ≡ m.steps → u.total ≡ m.total → ShowsAll net u next
+    shows_merged room clusters count nodes edges time steps moats = record {
       shown = record {
         count = count ∙ sym one_more;
         records = λ c l. ap (λ r. get_or r c vacant) clusters ∙ ⊎_elim (λ h. old_at c h) (λ h. newest c (let e = one_more in omega arith)) (cases_lt c (length ts));
-        memberships = λ w l. ap (λ r. get_or r w 0) memberships ∙ regrouped_at w l;
-        deep = λ w l. ap (λ r. get_or r w 0) depths ∙ deepened w l;
+        memberships = λ w l. ap (λ r. cluster_at r w) nodes ∙ regrouped_at w l;
+        deep = λ w l. ap (λ r. depth_at r w) nodes ∙ ap (λ n. n.depth) (moved_at w l) ∙ deepened w l;
         edges = λ s _. all_chosen s;
         time = time ∙ timed;
         steps = steps ∙ counted;

@@ -1,5 +1,5 @@
 -- Lists of one value, and a map in place, one element more at a time. Assumes nothing.
-use Rattle.std.proofs.Common.{◌≡◌, ℕ, ◌-◌, ◌<◌, ◌≤◌, List, ◌++◌, map, length, get_or, take, drop, replicate, ap, ◌∙◌, ⊎_elim, append-nil, arith}
+use Rattle.std.proofs.Common.{◌≡◌, ℕ, ◌-◌, ◌<◌, ◌≤◌, List, ◌++◌, map, length, get_or, take, drop, replicate, ap, ◌∙◌, ⊎_elim, append-nil, length-append, length-drop, arith}
 use Rattle.std.proofs.lemmas.List.{length-map, length-take-le, length-replicate, get_or-replicate, get_or_past, get_or-append_right, get_or-drop, take_all, drop_all}
 use Rattle.std.proofs.lemmas.Bool.{cases_lt}
 
@@ -10,6 +10,14 @@ filled_all n i a = ⊎_elim (λ l. get_or-replicate n i a a l) (λ l. get_or_pas
 module _ {X : Type 0} (f : X → X) (xs ys : List X) (i : ℕ) (is : ys ≡ map f (take i xs) ++ drop i xs) where
   front_long : i ≤ length xs → length (map f (take i xs)) ≡ i
   front_long l = length-map (take i xs) f ∙ length-take-le i xs l
+
+  pub still_long : i ≤ length xs → length ys ≡ length xs
+  still_long l =
+      let a = ap length is in
+      let b = length-append (map f (take i xs)) (drop i xs) in
+      let c = front_long l in
+      let d = length-drop i xs in
+      omega arith
 
   -- what is not reached yet is as it was
   pub unreached : i < length xs → (d : X) → get_or ys i d ≡ get_or xs i d

@@ -40,7 +40,7 @@ active_due net time (maximal u) h = (u, refl, cond-true (cluster_active u) (Some
 
 -- the doubled prizes of the nodes that the tables have in cluster c
 abbrev pub prizes_of : Net → Tables → ℕ → ℕ
-prizes_of net t c = prizes_in net.prizes t.nodes.cluster_of c (node_count net)
+prizes_of net t c = prizes_in net.prizes t.nodes.list c (node_count net)
 
 -- an active maximal cluster, from the tables: its surplus is not below 0, and its due time fits
 pub record Running (net : Net) (t : Tables) (st : State) (c : ℕ) : Type 0 where

@@ -1,5 +1,5 @@
 -- The marks of the grown tree: those of its nodes and of its edges, and none beyond the network.
-use Rattle.std.proofs.Common.{◌≡◌, ℕ, ◌+◌, ◌-◌, ◌<◌, ◌≤◌, Bool, true, false, ◌&&◌, eqb, ◌++◌, length, get_or, drop, replicate, sym, refl, ap, ◌∙◌, ⊎_elim, arith}
+use Rattle.std.proofs.Common.{◌≡◌, ℕ, ◌+◌, ◌-◌, ◌<◌, ◌≤◌, Bool, true, false, ◌&&◌, eqb, ◌++◌, length, drop, replicate, sym, refl, ap, ◌∙◌, ⊎_elim, arith}
 use mathlib.Core.Path.{fun_ext}
 use Rattle.std.proofs.lemmas.List.FromFn.{length-map-range_with_len}
 use Rattle.std.proofs.lemmas.List.{length-append, length-drop, length-replicate, get_or-append_right, get_or-drop}
@@ -23,7 +23,7 @@ use Rattle.theory.proofs.Valid.{fine}
 use Rattle.pruning.specs.Written.{edges_among}
 use Rattle.pruning.proofs.Marking.{get_or_zeros}
 use Rattle.pruning.proofs.Written.{marked_front}
-use Rattle.growth.specs.NodeTables.{grows_at}
+use Rattle.growth.specs.NodeTables.{grows_at, cluster_at}
 use Rattle.growth.specs.Shown.{ShowsAll}
 use Rattle.growth.specs.declared.tables.Tables.{Tables}
 use Rattle.growth.proofs.Growing.{grows_shown}
@@ -67,7 +67,7 @@ module _ (net : Net) (v : valid net ≡ true) (k : ℕ) where
 
   module _ (t : Tables) (shows : ShowsAll net t (grow net k)) where
     -- a node's maximal cluster grows where the node is in the grown tree
-    pub node_grown : (w : ℕ) → w < node_count net → grows_at t.family.clusters (get_or t.nodes.cluster_of w 0) ≡ grown_node (grow net k).slots w
+    pub node_grown : (w : ℕ) → w < node_count net → grows_at t.family.clusters (cluster_at t.nodes.list w) ≡ grown_node (grow net k).slots w
     node_grown w l =
         let formed = formed_by_number net v k in
         ap (grows_at t.family.clusters) (shows.shown.memberships w l) ∙ grows_shown net t (grow net k) formed shows (maximal_of (grow net k).slots w) ∙ sym (formed.in_grown w l)

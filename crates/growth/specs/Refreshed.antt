@@ -1,11 +1,12 @@
 -- The queue's table against the due times.
-use Rattle.std.specs.Prelude.{◌≡◌, ℕ, ◌+◌, ◌-◌, ◌<◌, Bool, true, cond, ◌||◌, List, [], ◌∷◌, length, Some, None, Option, ◌==◌, nat_lt, slice_index, slice_index_or}
+use Rattle.std.specs.Prelude.{◌≡◌, ℕ, ◌+◌, ◌-◌, ◌<◌, Bool, true, cond, ◌||◌, List, [], ◌∷◌, length, Some, None, Option, ◌==◌, nat_lt, slice_index_or}
 use Rattle.network.specs.Nets.{Net}
 use Rattle.theory.specs.Nets.{edge_count, first_end, second_end}
 use Rattle.theory.specs.Due.{due_times, among}
 use Rattle.theory.specs.Growth.{grow}
 use Rattle.growth.specs.Moats.{parts_at}
 use Rattle.growth.specs.declared.tables.Tables.{Tables}
+use Rattle.growth.specs.NodeTables.{cluster_at}
 
 -- the due times after k steps
 abbrev pub dues_after : Net → ℕ → List (Option ℕ)
@@ -26,7 +27,7 @@ pub record CaughtUp (dues t u : List (Option ℕ)) : Type 0 where
 
 -- an end of the edge is in this cluster
 abbrev pub is_at : Net → Tables → ℕ → ℕ → Bool
-is_at net t c s = slice_index t.nodes.cluster_of (first_end net s) == c || slice_index t.nodes.cluster_of (second_end net s) == c
+is_at net t c s = cluster_at t.nodes.list (first_end net s) == c || cluster_at t.nodes.list (second_end net s) == c
 
 -- the cluster that was formed last
 abbrev pub newest : Tables → ℕ

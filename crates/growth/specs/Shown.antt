@@ -15,6 +15,7 @@ use Rattle.theory.specs.Sums.{one}
 use Rattle.theory.specs.Nets.{node_count, edge_count}
 use Rattle.theory.specs.Growth.{State, grow, total}
 use Rattle.theory.specs.Prune.{chosen}
+use Rattle.growth.specs.NodeTables.{cluster_at, depth_at}
 
 -- a cluster's state, as the code has it
 abbrev pub phase_shown : theory.Phase → Phase
@@ -29,8 +30,8 @@ record_shown ts c = record { phase = phase_shown (phase_of ts c); moat = moat_of
 pub record Shows (net : Net) (t : Tables) (st : State) : Type 0 where
   pub count : t.family.formed ≡ length st.slots
   pub records : (c : ℕ) → c < length st.slots → slice_index_or t.family.clusters c vacant ≡ record_shown st.slots c
-  pub memberships : (v : ℕ) → v < node_count net → slice_index t.nodes.cluster_of v ≡ maximal_of st.slots v
-  pub deep : (v : ℕ) → v < node_count net → slice_index t.nodes.depths v ≡ depth st.slots v
+  pub memberships : (v : ℕ) → v < node_count net → cluster_at t.nodes.list v ≡ maximal_of st.slots v
+  pub deep : (v : ℕ) → v < node_count net → depth_at t.nodes.list v ≡ depth st.slots v
   pub edges : (s : ℕ) → s < edge_count net → slice_index t.chosen.marks s ≡ one (chosen st.slots s)
   pub time : t.time ≡ st.time
   pub steps : t.steps ≡ st.steps

@@ -35,7 +35,7 @@ impl Tables {
         if !grows(&self.family.clusters, c) {
             return None;
         }
-        let prizes = doubled_prizes(network.prizes(), &self.nodes.cluster_of, c);
+        let prizes = doubled_prizes(network.prizes(), &self.nodes.list, c);
         let moats = inner_moats(&self.family.clusters, c);
         Some(self.time + (prizes - moats))
     }
@@ -47,17 +47,16 @@ impl Tables {
         ensures { result ≡ edge_due (net_of network.now) (grow (net_of network.now) self.now.steps).time (grow (net_of network.now) self.now.steps).slots s }
     {
         let edge = edge_at(network, s);
-        let first = self.nodes.cluster_of[edge.first];
-        let second = self.nodes.cluster_of[edge.second];
-        if first == second {
+        let first = self.nodes.list[edge.first];
+        let second = self.nodes.list[edge.second];
+        if first.cluster == second.cluster {
             return None;
         }
-        let used = self.nodes.depths[edge.first] + self.nodes.depths[edge.second];
         slack_due(
-            grows(&self.family.clusters, first),
-            grows(&self.family.clusters, second),
+            grows(&self.family.clusters, first.cluster),
+            grows(&self.family.clusters, second.cluster),
             self.time,
-            2 * edge.cost - used,
+            2 * edge.cost - (first.depth + second.depth),
         )
     }
 }

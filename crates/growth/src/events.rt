@@ -4,6 +4,7 @@ ghost use Rattle.network.specs.Networks.{net_of};
 ghost use Rattle.theory.specs.Due.{earliest};
 ghost use Rattle.theory.specs.Growth.{ended, step, grow};
 ghost use Rattle.growth.specs.Events.{growing, Passed};
+ghost use Rattle.growth.specs.NodeTables.{depth_at};
 ghost use Rattle.growth.specs.Records.{vacant};
 ghost use Rattle.growth.specs.Refreshed.{dues_shown};
 ghost use Rattle.growth.specs.Shown.{ShowsAll, Shown};
@@ -18,7 +19,7 @@ impl Tables {
         requires few { n ≤ 256 }
         requires later { self.old.time ≤ time }
         requires moats { (c : ℕ) → (slice_index_or self.old.family.clusters c vacant).moat + (time - self.old.time) < 2 ^ 64 }
-        requires depths { (v : ℕ) → v < n → slice_index self.old.nodes.depths v + (time - self.old.time) < 2 ^ 64 }
+        requires depths { (v : ℕ) → v < n → depth_at self.old.nodes.list v + (time - self.old.time) < 2 ^ 64 }
         requires total { self.old.total + (time - self.old.time) * growing self.old.family.clusters < 2 ^ 64 }
         requires steps { self.old.steps + 1 < 2 ^ 64 }
         ensures { Passed n time self.old self.new }
@@ -44,8 +45,8 @@ impl Tables {
             return;
         }
         let edge = edge_at(network, number - 511);
-        let first = self.nodes.cluster_of[edge.first];
-        let second = self.nodes.cluster_of[edge.second];
+        let first = self.nodes.list[edge.first].cluster;
+        let second = self.nodes.list[edge.second].cluster;
         let new = self.family.merge(first, second);
         self.nodes.regroup(first, second, new);
         self.chosen.marks[number - 511] = 1;

@@ -1,27 +1,16 @@
-// The tables by node: opening them, and what one event does to them.
-ghost use Rattle.std.specs.Prelude.{◌≡◌, ℕ, ◌+◌, ◌^◌, ◌<◌, ◌≤◌, map, length, replicate, slice_index, slice_index_or};
-ghost use Rattle.growth.specs.NodeTables.{grows_at, regrouped, deeper};
+// The table by node: opening it, and what one event does to it.
+ghost use Rattle.std.specs.Prelude.{◌≡◌, ℕ, ◌+◌, ◌^◌, ◌<◌, ◌≤◌, map};
+ghost use Rattle.growth.specs.NodeTables.{grows_at, cluster_at, depth_at, regrouped, moved, deeper};
 
 use crate::Cluster;
-use crate::nodes::Nodes;
-
-// Node v is in cluster v.
-fn number_each(cluster_of: &mut [usize])
-    ensures { (v : ℕ) → v < length cluster_of.old → slice_index_or cluster_of.new v 0 ≡ v }
-{
-    for i in 0..cluster_of.len() {
-        cluster_of[i] = i;
-    }
-}
+use crate::nodes::{Node, Nodes};
+use std::array;
 
 // Whether the cluster of this number grows; one that is not in the table does not.
 pub(crate) fn grows(clusters: &[Cluster], c: usize) -> bool
     ensures { result ≡ grows_at clusters.now c }
 {
-    if c < clusters.len() {
-        return clusters[c].is_growing();
-    }
-    false
+    clusters.get(c).is_some_and(|cluster| cluster.is_growing())
 }
 
 fn regrouped(first: usize, second: usize, new: usize, c: usize) -> usize
@@ -30,59 +19,37 @@ fn regrouped(first: usize, second: usize, new: usize, c: usize) -> usize
     if c == first || c == second { new } else { c }
 }
 
-// The nodes of two clusters are in a new one now.
-pub(crate) fn regroup(cluster_of: &mut [usize], first: usize, second: usize, new: usize)
-    ensures { cluster_of.new ≡ map (regrouped first second new) cluster_of.old }
-{
-    for i in 0..cluster_of.len() {
-        cluster_of[i] = regrouped(first, second, new, cluster_of[i]);
-    }
-}
-
-// The depth of each node of a growing cluster grows.
-pub(crate) fn deepen(depths: &mut [u64], cluster_of: &[usize], clusters: &[Cluster], by: u64)
-    requires long { length depths.old ≤ length cluster_of.now }
-    requires fits { (v : ℕ) → slice_index depths.old v + by < 2 ^ 64 }
-    ensures { (v : ℕ) → v < length depths.old → slice_index depths.new v ≡ deeper clusters.now by (slice_index_or cluster_of.now v 0) (slice_index depths.old v) }
-{
-    for v in 0..depths.len() {
-        if grows(clusters, cluster_of[v]) {
-            depths[v] += by;
-        }
-    }
-}
-
 impl Nodes {
     // Each node in the cluster of its own number, at depth 0.
     pub(crate) fn open() -> Nodes
-        ensures clusters { (v : ℕ) → v < 256 → slice_index_or result.cluster_of v 0 ≡ v }
-        ensures depths { result.depths ≡ replicate 256 0 }
+        ensures clusters { (v : ℕ) → v < 256 → cluster_at result.list v ≡ v }
+        ensures depths { (v : ℕ) → v < 256 → depth_at result.list v ≡ 0 }
     {
-        let mut cluster_of = [0; 256];
-        number_each(&mut cluster_of);
         Nodes {
-            cluster_of,
-            depths: [0; 256],
+            list: array::from_fn(|cluster| Node { cluster, depth: 0 }),
         }
     }
 
     // The nodes of two clusters are in a new one now.
     pub(crate) fn regroup(&mut self, first: usize, second: usize, new: usize)
-        ensures clusters { self.new.cluster_of ≡ map (regrouped first second new) self.old.cluster_of }
-        ensures depths { self.new.depths ≡ self.old.depths }
+        ensures { self.new.list ≡ map (moved first second new) self.old.list }
     {
-        regroup(&mut self.cluster_of, first, second, new);
+        for node in self.list.iter_mut() {
+            node.cluster = regrouped(first, second, new, node.cluster);
+        }
     }
 
     // The depth of each of the first `n` nodes that is in a growing cluster grows.
     pub(crate) fn deepen(&mut self, clusters: &[Cluster], n: usize, by: u64)
         requires few { n ≤ 256 }
-        requires fits { (v : ℕ) → v < n → slice_index self.old.depths v + by < 2 ^ 64 }
-        ensures clusters { self.new.cluster_of ≡ self.old.cluster_of }
-        ensures depths { (v : ℕ) → v < n → slice_index self.new.depths v ≡ deeper clusters.now by (slice_index_or self.old.cluster_of v 0) (slice_index self.old.depths v) }
+        requires fits { (v : ℕ) → v < n → depth_at self.old.list v + by < 2 ^ 64 }
+        ensures clusters { (v : ℕ) → cluster_at self.new.list v ≡ cluster_at self.old.list v }
+        ensures depths { (v : ℕ) → v < n → depth_at self.new.list v ≡ deeper clusters.now by (cluster_at self.old.list v) (depth_at self.old.list v) }
     {
-        // A copy: one field of a lent struct is not lent beside another.
-        let cluster_of = self.cluster_of;
-        deepen(&mut self.depths[0..n], &cluster_of, clusters, by);
+        for node in self.list[0..n].iter_mut() {
+            if grows(clusters, node.cluster) {
+                node.depth += by;
+            }
+        }
     }
 }

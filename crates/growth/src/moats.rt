@@ -4,6 +4,7 @@ ghost use Rattle.growth.specs.Moats.{Falls, inner_moats};
 ghost use Rattle.growth.specs.Sums.{prizes_in};
 
 use crate::Cluster;
+use crate::nodes::Node;
 
 // A cluster's inner moats: its own and, in turn, those of its two parts.
 pub(crate) fn inner_moats(clusters: &[Cluster], c: usize) -> u64
@@ -22,16 +23,16 @@ pub(crate) fn inner_moats(clusters: &[Cluster], c: usize) -> u64
 }
 
 // The doubled prizes of a maximal cluster's nodes.
-pub(crate) fn doubled_prizes(prizes: &[u64], cluster_of: &[usize], c: usize) -> u64
+pub(crate) fn doubled_prizes(prizes: &[u64], nodes: &[Node], c: usize) -> u64
     requires few { length prizes.now ≤ 256 }
-    requires long { length prizes.now ≤ length cluster_of.now }
+    requires long { length prizes.now ≤ length nodes.now }
     requires small { (v : ℕ) → slice_index prizes.now v ≤ 1000000000 }
-    ensures { result ≡ prizes_in prizes.now cluster_of.now c (length prizes.now) }
+    ensures { result ≡ prizes_in prizes.now nodes.now c (length prizes.now) }
 {
     let mut sum: u64 = 0;
-    for v in 0..prizes.len() {
-        if cluster_of[v] == c {
-            sum += 2 * prizes[v];
+    for (v, prize) in prizes.iter().enumerate() {
+        if nodes[v].cluster == c {
+            sum += 2 * *prize;
         }
     }
     sum

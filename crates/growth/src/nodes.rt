@@ -1,11 +1,16 @@
 // What growth keeps for each node.
 ghost use Rattle.std.specs.Prelude.{◌≡◌, length};
 
-// By node: the maximal cluster that holds it, and its depth.
+// The maximal cluster that holds a node, and the node's depth.
+#[derive(Clone, Copy, Default)]
+pub(crate) struct Node {
+    pub(crate) cluster: usize,
+    pub(crate) depth: u64,
+}
+
+// The nodes by number.
 #[derive(Drop)]
 pub(crate) struct Nodes {
-    pub(crate) cluster_of: [usize; 256],
-    pub(crate) depths: [u64; 256],
-    ghost clusters_whole: { length cluster_of ≡ 256 },
-    ghost depths_whole: { length depths ≡ 256 },
+    pub(crate) list: [Node; 256],
+    ghost whole: { length list ≡ 256 },
 }

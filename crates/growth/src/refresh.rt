@@ -33,7 +33,7 @@ impl Tables {
         ensures { result ≡ is_at (net_of network.now) self.now c s }
     {
         let edge = edge_at(network, s);
-        self.nodes.cluster_of[edge.first] == c || self.nodes.cluster_of[edge.second] == c
+        self.nodes.list[edge.first].cluster == c || self.nodes.list[edge.second].cluster == c
     }
 }
 

@@ -57,7 +57,7 @@ impl Tables {
         let mut nodes = [0u8; 256];
         let count = network.prizes().len();
         for v in 0..count {
-            let grown = grows(&self.family.clusters, self.nodes.cluster_of[v]);
+            let grown = grows(&self.family.clusters, self.nodes.list[v].cluster);
             nodes[v] = grown as u8;
         }
         nodes

@@ -68,18 +68,23 @@ found_below {k = k} p n t found gives ran = by found (first_from_Range _ t k fou
     by None h = sym (none_below p n (λ v l. h v (omega arith) l))
     by (Some v) h = sym (lowest_found p n v (none_below p v (λ u l. h.3 u (omega arith) l)) h.2 h.1)
 
--- `array::from_fn(..)`, at a byte for each test
-module _ {F : Type 0} {g : Mut F (ℕ × Unit {0}) ℕ} {k : F} (p : ℕ → Bool) (n : ℕ) (bytes : List ℕ) (gives : (x y : ℕ) (q : F) → Called g k (x, tt) y q → (q ≡ k) × (y ≡ bool_byte (p x))) where
-  byte_at : (i m : ℕ) → IsFromFnResultFrom g k bytes i m → (v : ℕ) → i ≤ v → v < i + m → get_or bytes v 0 ≡ bool_byte (p v)
-  byte_at i zero made v low high = absurd (omega arith)
-  byte_at i (suc m) made v low high = elim (cases_eq v i) [
-    | inl e ↦ ap (λ u. get_or bytes u 0) e ∙ made.2.1 0 ∙ (gives i made.1 made.0 made.3).1 ∙ ap (λ u. bool_byte (p u)) (sym e)
-    | inr e ↦ byte_at (i + 1) m (subst (λ q. IsFromFnResultFrom g q bytes (i + 1) m) (gives i made.1 made.0 made.3).0 made.4) v (omega arith) (omega arith)
+-- `array::from_fn(..)`
+module _ {X F : Type 0} {g : Mut F (ℕ × Unit {0}) X} {k : F} (f : ℕ → X) (xs : List X) (gives : (x : ℕ) (y : X) (q : F) → Called g k (x, tt) y q → (q ≡ k) × (y ≡ f x)) where
+  made_from : (i m : ℕ) → IsFromFnResultFrom g k xs i m → (v : ℕ) (d : X) → i ≤ v → v < i + m → get_or xs v d ≡ f v
+  made_from i zero made v d low high = absurd (omega arith)
+  made_from i (suc m) made v d low high = elim (cases_eq v i) [
+    | inl e ↦ ap (λ u. get_or xs u d) e ∙ made.2.1 d ∙ (gives i made.1 made.0 made.3).1 ∙ ap f (sym e)
+    | inr e ↦ made_from (i + 1) m (subst (λ q. IsFromFnResultFrom g q xs (i + 1) m) (gives i made.1 made.0 made.3).0 made.4) v d (omega arith) (omega arith)
   ]
 
-  pub marks_made : IsFromFnResult g k bytes n → (v : ℕ) → v < n → marked bytes v ≡ p v
-  marks_made made v l = ap (λ x. eqb x 1) (byte_at 0 n made.each v (omega arith) (omega arith) ∙ byte_one (p v)) ∙ of_one (p v)
-    where
-      of_one : (b : Bool) → eqb (one b) 1 ≡ b
-      of_one true = refl
-      of_one false = refl
+  pub made_at : (n : ℕ) → IsFromFnResult g k xs n → (v : ℕ) (d : X) → v < n → get_or xs v d ≡ f v
+  made_at n made v d l = made_from 0 n made.each v d (omega arith) (omega arith)
+
+-- at a byte for each test
+pub marks_made : {F : Type 0} {g : Mut F (ℕ × Unit {0}) ℕ} {k : F} (p : ℕ → Bool) (n : ℕ) (bytes : List ℕ) (gives : (x y : ℕ) (q : F) → Called g k (x, tt) y q → (q ≡ k) × (y ≡ bool_byte (p x)))
+    → IsFromFnResult g k bytes n → (v : ℕ) → v < n → marked bytes v ≡ p v
+marks_made p n bytes gives made v l = ap (λ x. eqb x 1) (made_at (λ u. bool_byte (p u)) bytes gives n made v 0 l ∙ byte_one (p v)) ∙ of_one (p v)
+  where
+    of_one : (b : Bool) → eqb (one b) 1 ≡ b
+    of_one true = refl
+    of_one false = refl

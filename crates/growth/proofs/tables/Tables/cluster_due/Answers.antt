@@ -36,7 +36,7 @@ doubled_prizes-prizes-requires c =
     let f = fine net c.args.network.now.valid in
     let few = f.few_nodes in
     let same = ap length c.prizes.ensures in
-    let whole = c.args.self.now.nodes.clusters_whole in
+    let whole = c.args.self.now.nodes.whole in
     record { few = omega arith; long = omega arith; small = λ v. let e = ap (λ ps. get_or ps v 0) c.prizes.ensures in omega (arith, f.prizes v) }
 
 pub inner_moats-moats-requires : goal.inner_moats-moats-requires
@@ -54,7 +54,7 @@ inner_moats-moats-requires c =
 
 -- what the two calls answer, in the network's words
 prizes_are : (c : After-inner_moats-moats) → c.doubled_prizes-prizes.result ≡ prizes_of (net_of c.args.network.now) c.args.self.now c.args.c
-prizes_are c = c.doubled_prizes-prizes.ensures ∙ ap (λ ps. prizes_in ps c.args.self.now.nodes.cluster_of c.args.c (length ps)) c.prizes.ensures
+prizes_are c = c.doubled_prizes-prizes.ensures ∙ ap (λ ps. prizes_in ps c.args.self.now.nodes.list c.args.c (length ps)) c.prizes.ensures
 
 due : (c : After-inner_moats-moats) → Running (net_of c.args.network.now) c.args.self.now (grow (net_of c.args.network.now) c.args.self.now.steps) c.args.c
 due c = grown c.args.network.now c.args.self.now c.args.c c.requires (sym c.grows.ensures ∙ c.if-not-grows.false)

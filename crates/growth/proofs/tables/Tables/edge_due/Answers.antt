@@ -19,8 +19,8 @@ read c =
 pub returns-then-first-second : goal.returns-then-first-second
 returns-then-first-second c = sym ((read (goal.at.returns-then-first-second c).After-edge_at-edge).one c.if-first-second.true)
 
-pub overflow_add-used : goal.overflow_add-used
-overflow_add-used c = let b = (read (goal.at.overflow_add-used c).After-edge_at-edge).fits in omega arith
+pub overflow_add-first : goal.overflow_add-first
+overflow_add-first c = let b = (read (goal.at.overflow_add-first c).After-edge_at-edge).fits in omega arith
 
 pub overflow_mul-edge : goal.overflow_mul-edge
 overflow_mul-edge c = let b = (read (goal.at.overflow_mul-edge c).After-edge_at-edge).fits in omega arith

@@ -1,10 +1,10 @@
-use Rattle.std.proofs.Common.{◌≡◌, ℕ, ◌+◌, map, length, get_or, refl, ap, ◌∙◌, subst, arith}
+use Rattle.std.proofs.Common.{◌≡◌, ℕ, ◌+◌, map, length, refl, ap, ◌∙◌, subst, arith}
 use Rattle.network.specs.Networks.{net_of}
 use Rattle.theory.specs.Nets.{node_count}
 use Rattle.theory.specs.Growth.{grow}
 use Rattle.theory.proofs.Valid.{fine}
 use Rattle.growth.specs.Records.{merged_records}
-use Rattle.growth.specs.NodeTables.{regrouped}
+use Rattle.growth.specs.NodeTables.{moved, cluster_at}
 use Rattle.growth.specs.Events.{Passed}
 use Rattle.growth.specs.declared.tables.Tables.{Tables}
 use Rattle.growth.proofs.Entries.{number_below, edge_known}
@@ -62,8 +62,8 @@ pub bounds-self-edge-2 : goal.bounds-self-edge-2
 bounds-self-edge-2 c = omega (arith, c.edge_at-edge.ensures.within)
 
 -- a node's maximal cluster, as the table has it after time has passed
-after_passing : (n to : ℕ) (t m : Tables) → Passed n to t m → (v w d : ℕ) → v ≡ w → get_or t.nodes.cluster_of w 0 ≡ d → get_or m.nodes.cluster_of v 0 ≡ d
-after_passing n to t m p v w d e is = (λ i. get_or (p.memberships i) (e i) 0) ∙ is
+after_passing : (n to : ℕ) (t m : Tables) → Passed n to t m → (v w d : ℕ) → v ≡ w → cluster_at t.nodes.list w ≡ d → cluster_at m.nodes.list v ≡ d
+after_passing n to t m p v w d e is = ap (cluster_at m.nodes.list) e ∙ p.memberships w ∙ is
 
 pub merge-new-requires : goal.merge-new-requires
 merge-new-requires c =
@@ -94,8 +94,8 @@ returns c =
     let t = c.args.self.now in
     let m = c.pass.new.self in
     let high = c.if-number-lt511.false in
-    let first = get_or m.nodes.cluster_of c.edge_at-edge.result.first 0 in
-    let second = get_or m.nodes.cluster_of c.edge_at-edge.result.second 0 in
+    let first = cluster_at m.nodes.list c.edge_at-edge.result.first in
+    let second = cluster_at m.nodes.list c.edge_at-edge.result.second in
     let a = after_passing _ c.args.time t m c.pass.ensures c.edge_at-edge.result.first _ _ c.edge_at-edge.ensures.first (first_is net n.valid t.steps t c.requires.shown c.args.time c.args.number c.requires.going c.requires.first high) in
     let b = after_passing _ c.args.time t m c.pass.ensures c.edge_at-edge.result.second _ _ c.edge_at-edge.ensures.second (second_is net n.valid t.steps t c.requires.shown c.args.time c.args.number c.requires.going c.requires.first high) in
     let count : m.family.formed ≡ length (grow net t.steps).slots = c.pass.ensures.formed ∙ c.requires.shown.shown.count in
@@ -105,5 +105,5 @@ returns c =
     (room net n.valid t.steps t c.requires.shown c.args.time c.args.number c.requires.going c.requires.first high)
     (c.merge-new.ensures.clusters ∙ λ i. merged_records m.family.clusters (count i) (a i) (b i))
     (c.merge-new.ensures.formed ∙ ap (λ x. x + 1) count)
-    (c.regroup.ensures.clusters ∙ λ i. map (regrouped (a i) (b i) ((c.merge-new.ensures.number ∙ count) i)) m.nodes.cluster_of)
-    c.regroup.ensures.depths refl refl refl refl
+    (c.regroup.ensures ∙ λ i. map (moved (a i) (b i) ((c.merge-new.ensures.number ∙ count) i)) m.nodes.list)
+    refl refl refl refl

@@ -40,7 +40,7 @@ returns c =
             lone_at (length c.prizes.result.now) k c.open.result.clusters c.open.ensures.clusters (omega arith)
             ∙ λ i. record { phase = phase_shown (sym (s.phases k m) i); moat = sym (s.moats k m) i; parts = sym (s.parts k m) i; maximal = sym (s.maximals k m) i };
         memberships = λ v l. c.open-2.ensures.clusters v (omega arith) ∙ sym (s.memberships v l);
-        deep = λ v l. ap (λ d. get_or d v 0) c.open-2.ensures.depths ∙ get_or-replicate 256 v 0 0 (omega arith) ∙ sym (s.depths v);
+        deep = λ v l. c.open-2.ensures.depths v (omega arith) ∙ sym (s.depths v);
         edges = λ e _. filled_all 1024 e 0 ∙ ap one (sym (s.none_chosen e));
         time = refl;
         steps = refl;
