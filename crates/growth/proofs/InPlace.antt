@@ -1,7 +1,10 @@
 -- Lists of one value, and a map in place, one element more at a time. Assumes nothing.
-use Rattle.std.proofs.Common.{◌≡◌, ℕ, ◌-◌, ◌<◌, ◌≤◌, List, ◌++◌, map, length, get_or, take, drop, replicate, ap, ◌∙◌, ⊎_elim, append-nil, length-append, length-drop, arith}
+use Rattle.std.proofs.Common.{◌≡◌, ℕ, zero, suc, ◌+◌, ◌-◌, ◌<◌, ◌≤◌, List, ◌++◌, map, length, get_or, take, drop, replicate, refl, sym, ap, ◌∙◌, ⊎_elim, append-nil, length-append, length-drop, add-one, arith}
 use Rattle.std.proofs.lemmas.List.{length-map, length-take-le, length-replicate, get_or-replicate, get_or_past, get_or-append_right, get_or-drop, take_all, drop_all}
 use Rattle.std.proofs.lemmas.Bool.{cases_lt}
+use Rattle.std.specs.List.{sum_by}
+use Rattle.std.proofs.lemmas.List.Sums.{sum_by_more}
+use Rattle.theory.specs.Sums.{sum_to}
 
 -- within the list and beyond it
 pub filled_all : {X : Type 0} (n i : ℕ) (a : X) → get_or (replicate n a) i a ≡ a
@@ -29,3 +32,14 @@ module _ {X : Type 0} (f : X → X) (xs ys : List X) (i : ℕ) (is : ys ≡ map 
 
   pub all_reached : length xs ≤ i → ys ≡ map f xs
   all_reached l = is ∙ (λ k. map f (take_all i xs l k) ++ drop_all i xs l k) ∙ append-nil (map f xs)
+
+-- a sum over a list, by number
+sum_below : {X : Type 0} (f : X → ℕ) (d : X) (xs : List X) (n : ℕ) → n ≤ length xs → sum_by f (take n xs) ≡ sum_to n (λ k. f (get_or xs k d))
+sum_below f d xs zero l = refl
+sum_below f d xs (suc n) l =
+    ap (λ k. sum_by f (take k xs)) (sym (add-one n))
+    ∙ sum_by_more f xs n d (omega arith)
+    ∙ ap (λ sum. sum + f (get_or xs n d)) (sum_below f d xs n (omega arith))
+
+pub sum_of : {X : Type 0} (f : X → ℕ) (d : X) (xs : List X) → sum_by f xs ≡ sum_to (length xs) (λ k. f (get_or xs k d))
+sum_of f d xs = ap (sum_by f) (sym (take_all (length xs) xs (omega arith))) ∙ sum_below f d xs (length xs) (omega arith)

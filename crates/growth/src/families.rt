@@ -5,36 +5,6 @@ ghost use Rattle.growth.specs.Events.{growing};
 
 use crate::{Cluster, Family};
 
-// Every active maximal cluster's moat grows.
-fn grow_each(clusters: &mut [Cluster], by: u64)
-    requires { (c : ℕ) → (get_or clusters.old c vacant).moat + by < 2 ^ 64 }
-    ensures { clusters.new ≡ map (widened by) clusters.old }
-{
-    for i in 0..clusters.len() {
-        clusters[i].grow(by);
-    }
-}
-
-// The first n records are nodes alone.
-fn place_lone(clusters: &mut [Cluster], n: usize)
-    requires { n ≤ length clusters.old }
-    ensures { clusters.new ≡ replicate n lone_record ++ drop n clusters.old }
-{
-    for i in 0..n {
-        clusters[i] = Cluster::lone();
-    }
-}
-
-fn count_growing(clusters: &[Cluster]) -> usize
-    ensures { result ≡ growing clusters.now }
-{
-    let mut count = 0;
-    for c in 0..clusters.len() {
-        count += clusters[c].is_growing() as usize;
-    }
-    count
-}
-
 impl Family {
     // Each of n nodes alone.
     pub(crate) fn open(n: usize) -> Family
@@ -43,7 +13,7 @@ impl Family {
         ensures formed { result.formed ≡ n }
     {
         let mut clusters = [Cluster::vacant(); 511];
-        place_lone(&mut clusters, n);
+        clusters[0..n].fill(Cluster::lone());
         Family {
             clusters,
             formed: n,
@@ -54,15 +24,21 @@ impl Family {
     pub(crate) fn growing(&self) -> usize
         ensures { result ≡ growing self.now.clusters }
     {
-        count_growing(&self.clusters)
+        self.clusters
+            .iter()
+            .filter(|cluster| cluster.is_growing())
+            .count()
     }
 
+    // Every active maximal cluster's moat grows.
     pub(crate) fn pass(&mut self, by: u64)
         requires { (c : ℕ) → (get_or self.old.clusters c vacant).moat + by < 2 ^ 64 }
         ensures clusters { self.new.clusters ≡ map (widened by) self.old.clusters }
         ensures formed { self.new.formed ≡ self.old.formed }
     {
-        grow_each(&mut self.clusters, by);
+        for cluster in self.clusters.iter_mut() {
+            cluster.grow(by);
+        }
     }
 
     pub(crate) fn deactivate(&mut self, c: usize)

@@ -19,13 +19,9 @@ impl Cluster {
     fn shape(&self) -> Shape
         ensures { result ≡ shape_of self.now }
     {
-        let inactive = match self.phase {
-            Phase::Active => false,
-            Phase::Inactive => true,
-        };
         Shape {
             parts: self.parts,
-            inactive,
+            inactive: self.phase == Phase::Inactive,
         }
     }
 }
@@ -35,15 +31,7 @@ impl Family {
     pub(crate) fn shapes(&self) -> [Shape; 511]
         ensures { result ≡ map shape_of self.now.clusters }
     {
-        let none = Shape {
-            parts: None,
-            inactive: false,
-        };
-        let mut shapes = [none; 511];
-        for c in 0..511usize {
-            shapes[c] = self.clusters[c].shape();
-        }
-        shapes
+        self.clusters.map(|cluster| cluster.shape())
     }
 }
 
