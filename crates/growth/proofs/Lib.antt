@@ -6,6 +6,7 @@ pub mod Entries
 pub mod Fitting
 pub mod Written
 pub mod Happening
+pub mod Numbered
 pub mod Catching
 pub mod Advancing
 pub mod Calls

@@ -1,8 +1,7 @@
 -- The marks of the grown tree: those of its nodes and of its edges, and none beyond the network.
-use Rattle.std.proofs.Common.{◌≡◌, ℕ, ◌+◌, ◌-◌, ◌<◌, ◌≤◌, Bool, true, false, ◌&&◌, eqb, ◌++◌, length, drop, replicate, sym, refl, ap, ◌∙◌, ⊎_elim, arith}
+use Rattle.std.proofs.Common.{◌≡◌, ℕ, ◌<◌, Bool, true, false, ◌&&◌, eqb, List, length, sym, refl, ap, ◌∙◌, ⊎_elim, arith}
 use mathlib.Core.Path.{fun_ext}
-use Rattle.std.proofs.lemmas.List.FromFn.{length-map-range_with_len}
-use Rattle.std.proofs.lemmas.List.{length-append, length-drop, length-replicate, get_or-append_right, get_or-drop}
+use Rattle.std.proofs.lemmas.List.{get_or_past}
 use Rattle.std.proofs.lemmas.Bool.{cases_lt, and_parts}
 use Rattle.network.specs.Nets.{Net, valid}
 use Rattle.theory.specs.Sums.{one}
@@ -10,7 +9,7 @@ use Rattle.theory.specs.Nets.{node_count, edge_count}
 use Rattle.theory.specs.Clusters.{cluster_active, holds, Deep}
 use Rattle.theory.specs.Due.{maximal_of}
 use Rattle.theory.specs.Growth.{grow}
-use Rattle.theory.specs.Prune.{uses, chosen, grown_node, grown_edge, marks, marked}
+use Rattle.theory.specs.Prune.{uses, chosen, grown_node, grown_edge, marked}
 use Rattle.theory.proofs.Bools.{only}
 use Rattle.theory.proofs.Families.{deep_weaker}
 use Rattle.theory.proofs.Inside.{any_found, used_ends}
@@ -21,29 +20,17 @@ use Rattle.theory.proofs.Sharing.{held_below}
 use Rattle.theory.proofs.Slots.{maximal_all}
 use Rattle.theory.proofs.Valid.{fine}
 use Rattle.pruning.specs.Written.{edges_among}
-use Rattle.pruning.proofs.Marking.{get_or_zeros}
-use Rattle.pruning.proofs.Written.{marked_front}
 use Rattle.growth.specs.NodeTables.{grows_at, cluster_at}
 use Rattle.growth.specs.Shown.{ShowsAll}
 use Rattle.growth.specs.declared.tables.Tables.{Tables}
 use Rattle.growth.proofs.Growing.{grows_shown}
 
--- marks at the front of zeros: as many as the zeros were, and no other is marked
-module _ (m n : ℕ) (p : ℕ → Bool) where
-  pub front_long : n ≤ m → length (marks n p ++ drop n (replicate m 0)) ≡ m
-  front_long l =
-      let front = length-map-range_with_len (λ v. one (p v)) 0 n in
-      let zeros = length-replicate {A = ℕ} m 0 in
-      let behind = length-drop n (replicate {A = ℕ} m 0) in
-      length-append (marks n p) (drop n (replicate m 0)) ∙ omega arith
-
-  pub front_marked : ((v : ℕ) → p v ≡ true → v < n) → marked (marks n p ++ drop n (replicate m 0)) ≡ p
-  front_marked within = fun_ext (λ v. ⊎_elim
-      (λ l. marked_front n p (drop n (replicate m 0)) v l)
-      (λ l.
-      ap (λ x. eqb x 1) (get_or-append_right (marks n p) (drop n (replicate m 0)) n v 0 (length-map-range_with_len (λ v. one (p v)) 0 n) l ∙ get_or-drop n (replicate m 0) (v - n) 0 ∙ get_or_zeros m (n + (v - n)))
-      ∙ sym (only (p v) (λ e. let b = within v e in omega arith)))
-      (cases_lt v n))
+-- marks that are right below m, where none is beyond
+pub marks_whole : (m : ℕ) (p : ℕ → Bool) (bytes : List ℕ) → length bytes ≡ m → ((v : ℕ) → v < m → marked bytes v ≡ p v) → ((v : ℕ) → p v ≡ true → v < m) → marked bytes ≡ p
+marks_whole m p bytes long below within = fun_ext (λ v. ⊎_elim
+    (λ l. below v l)
+    (λ l. ap (λ x. eqb x 1) (get_or_past bytes v 0 (omega arith)) ∙ sym (only (p v) (λ e. let b = within v e in omega arith)))
+    (cases_lt v m))
 
 mark : (b : Bool) → eqb (one b) 1 ≡ b
 mark true = refl

@@ -1,5 +1,5 @@
 -- A network under growth: the state that it has reached, and what its calls answer.
-use Rattle.std.specs.Prelude.{◌≡◌, ℕ, ◌-◌, true, cond, List, Some, None, Ok, Err, Option, Result, nat_lt}
+use Rattle.std.specs.Prelude.{◌≡◌, ℕ, true, cond, List, Some, None, Ok, Err, Option, Result}
 use Rattle.refusal.specs.declared.Refusal.{Refusal}
 use Rattle.refusal.specs.declared.Refusal.TheVariants.{GrowthEnded}
 use Rattle.network.specs.Nets.{Net, valid}
@@ -8,7 +8,7 @@ use Rattle.theory.specs.Growth.{State, ended, grow}
 use Rattle.growth.specs.Shown.{Shown}
 use Rattle.growth.specs.Refreshed.{dues_shown}
 use Rattle.growth.specs.declared.event.Event.{Event}
-use Rattle.growth.specs.declared.event.Event.TheVariants.{Deactivated, Merged}
+use Rattle.growth.specs.Numbers.{event_of}
 use Rattle.growth.specs.declared.tables.Tables.{Tables}
 
 -- a valid network, as entered, and the steps accepted so far
@@ -35,10 +35,6 @@ pub record Sound (net : Net) (t : Tables) (table : List (Option ℕ)) : Type 0 w
 -- what a step takes: what is due first, and nothing once growth has ended
 abbrev pub next_due : Net → State → Option (ℕ × ℕ)
 next_due net st = cond (ended st) None (earliest (due_times net st.time st.slots))
-
--- the event under a number: below 511 a cluster's, from there on an edge's
-abbrev pub event_of : ℕ → Event
-event_of number = cond (nat_lt number 511) (Deactivated number) (Merged (number - 511))
 
 -- what a step answers that takes this
 abbrev pub taken_answer : Option (ℕ × ℕ) → Result Event Refusal

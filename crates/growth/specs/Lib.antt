@@ -8,3 +8,4 @@ pub mod Refreshed
 pub mod Grown
 pub mod Asked
 pub mod Plans
+pub mod Numbers

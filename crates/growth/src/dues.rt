@@ -5,13 +5,11 @@ ghost use Rattle.theory.specs.Clusters.Slot.{inside};
 ghost use Rattle.theory.specs.Due.{cluster_due, slack_due, edge_due};
 ghost use Rattle.theory.specs.Growth.{grow};
 ghost use Rattle.theory.specs.Nets.{edge_count};
-ghost use Rattle.growth.specs.Shown.{Shown};
 
-use crate::Tables;
+use crate::Snapshot;
 use crate::memberships::grows;
 use crate::moats::{doubled_prizes, inner_moats};
 use crate::reads::edge_at;
-use network::Network;
 
 // When so much slack has run out: each active cluster at the edge uses it up.
 fn slack_due(first: bool, second: bool, time: u64, left: u64) -> Option<u64>
@@ -26,36 +24,36 @@ fn slack_due(first: bool, second: bool, time: u64, left: u64) -> Option<u64>
     }
 }
 
-impl Tables {
+impl Snapshot<'_> {
     // When the cluster of this number is due: an active maximal one when its surplus has run out, any other not at all.
-    pub(crate) fn cluster_due(&self, network: &Network, c: usize) -> Option<u64>
-        requires { Shown (net_of network.now) self.now }
-        ensures { result ≡ cluster_due (net_of network.now) (grow (net_of network.now) self.now.steps).time (slice_index_or (grow (net_of network.now) self.now.steps).slots c inside) }
+    pub(crate) fn cluster_due(&self, c: usize) -> Option<u64>
+        ensures { result ≡ cluster_due (net_of self.now.network.now) (grow (net_of self.now.network.now) self.now.tables.now.steps).time (slice_index_or (grow (net_of self.now.network.now) self.now.tables.now.steps).slots c inside) }
     {
-        if !grows(&self.family.clusters, c) {
+        let tables = self.tables;
+        if !grows(&tables.family.clusters, c) {
             return None;
         }
-        let prizes = doubled_prizes(network.prizes(), &self.nodes.list, c);
-        let moats = inner_moats(&self.family.clusters, c);
-        Some(self.time + (prizes - moats))
+        let prizes = doubled_prizes(self.network.prizes(), &tables.nodes.list, c);
+        let moats = inner_moats(&tables.family.clusters, c);
+        Some(tables.time + (prizes - moats))
     }
 
     // When an edge is due: half its slack from now between two active clusters, its slack from now with one active, else not at all.
-    pub(crate) fn edge_due(&self, network: &Network, s: usize) -> Option<u64>
-        requires shown { Shown (net_of network.now) self.now }
-        requires known { s < edge_count (net_of network.now) }
-        ensures { result ≡ edge_due (net_of network.now) (grow (net_of network.now) self.now.steps).time (grow (net_of network.now) self.now.steps).slots s }
+    pub(crate) fn edge_due(&self, s: usize) -> Option<u64>
+        requires { s < edge_count (net_of self.now.network.now) }
+        ensures { result ≡ edge_due (net_of self.now.network.now) (grow (net_of self.now.network.now) self.now.tables.now.steps).time (grow (net_of self.now.network.now) self.now.tables.now.steps).slots s }
     {
-        let edge = edge_at(network, s);
-        let first = self.nodes.list[edge.first];
-        let second = self.nodes.list[edge.second];
+        let tables = self.tables;
+        let edge = edge_at(self.network, s);
+        let first = tables.nodes.list[edge.first];
+        let second = tables.nodes.list[edge.second];
         if first.cluster == second.cluster {
             return None;
         }
         slack_due(
-            grows(&self.family.clusters, first.cluster),
-            grows(&self.family.clusters, second.cluster),
-            self.time,
+            grows(&tables.family.clusters, first.cluster),
+            grows(&tables.family.clusters, second.cluster),
+            tables.time,
             2 * edge.cost - (first.depth + second.depth),
         )
     }

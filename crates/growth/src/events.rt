@@ -9,8 +9,8 @@ ghost use Rattle.growth.specs.Records.{vacant};
 ghost use Rattle.growth.specs.Refreshed.{dues_shown};
 ghost use Rattle.growth.specs.Shown.{ShowsAll, Shown};
 
-use crate::Tables;
 use crate::reads::edge_at;
+use crate::{Event, Tables};
 use network::Network;
 
 impl Tables {
@@ -40,15 +40,16 @@ impl Tables {
         ensures { ShowsAll (net_of network.now) self.new (step (net_of network.now) (grow (net_of network.now) self.old.steps)) }
     {
         self.pass(network.prizes().len(), time);
-        if number < 511 {
-            self.family.deactivate(number);
-            return;
+        match Event::from(number) {
+            Event::Deactivated { cluster } => self.family.deactivate(cluster),
+            Event::Merged { edge } => {
+                let ends = edge_at(network, edge);
+                let first = self.nodes.list[ends.first].cluster;
+                let second = self.nodes.list[ends.second].cluster;
+                let new = self.family.merge(first, second);
+                self.nodes.regroup(first, second, new);
+                self.chosen.marks[edge] = 1;
+            }
         }
-        let edge = edge_at(network, number - 511);
-        let first = self.nodes.list[edge.first].cluster;
-        let second = self.nodes.list[edge.second].cluster;
-        let new = self.family.merge(first, second);
-        self.nodes.regroup(first, second, new);
-        self.chosen.marks[number - 511] = 1;
     }
 }

@@ -1,29 +1,30 @@
 // Both prunings of a growing network.
 ghost use Rattle.std.specs.Prelude.{◌≡◌};
+ghost use Rattle.network.specs.Entries.{answer_of};
 ghost use Rattle.theory.specs.Laws.{Laws};
 ghost use Rattle.theory.specs.Prune.{plan};
 ghost use Rattle.theory.specs.Strong.{strong_plan};
 ghost use Rattle.growth.specs.Grown.{network_of, steps_of, state_of};
 ghost use Rattle.growth.specs.Plans.{no_plan, plan_answer, nodes_written, edges_written};
 
-use crate::Growth;
+use crate::{Growth, Snapshot};
 use pruning::{Answer, prune_tree, strong_prune_tree};
 use queue::EventQueue;
 use refusal::Refusal;
 
 impl<Q: EventQueue> Growth<Q> {
-    // Why there is no plan: the network has no node, or two maximal clusters are still active.
-    fn no_plan(&self) -> Option<Refusal>
-        ensures { result ≡ no_plan (network_of self.now) (state_of self.now) }
+    // Refused without a node, and while two maximal clusters are active.
+    fn check_plan(&self) -> Result<(), Refusal>
+        ensures { result ≡ answer_of (no_plan (network_of self.now) (state_of self.now)) tt }
     {
-        let empty = self.network.prizes().len() == 0;
+        let empty = self.network.prizes().is_empty();
         if empty {
-            return Some(Refusal::NoNode);
+            return Err(Refusal::NoNode);
         }
-        if self.has_ended() {
-            return None;
+        if !self.has_ended() {
+            return Err(Refusal::StillGrowing);
         }
-        Some(Refusal::StillGrowing)
+        Ok(())
     }
 
     // The plan: what pruning leaves of the grown tree. Writes 1 or 0 for each node and each edge to the front of the two lists, and answers for it.
@@ -34,11 +35,13 @@ impl<Q: EventQueue> Growth<Q> {
         ensures edges { edges_out.new ≡ edges_written (network_of self.now) (state_of self.now) (plan (network_of self.now) (state_of self.now)) nodes_out.old edges_out.old }
         ensures laws { Laws (network_of self.now) (steps_of self.now) }
     {
-        if let Some(why) = self.no_plan() {
-            return Err(why);
-        }
+        self.check_plan()?;
+        let grown = Snapshot {
+            network: &self.network,
+            tables: &self.tables,
+        };
         let shapes = self.tables.family.shapes();
-        let nodes = self.tables.grown_nodes(&self.network);
+        let nodes = grown.grown_nodes();
         prune_tree(
             &self.network,
             &shapes[0..self.tables.family.formed],
@@ -60,11 +63,13 @@ impl<Q: EventQueue> Growth<Q> {
         ensures edges { edges_out.new ≡ edges_written (network_of self.now) (state_of self.now) (strong_plan (network_of self.now) (state_of self.now)) nodes_out.old edges_out.old }
         ensures laws { Laws (network_of self.now) (steps_of self.now) }
     {
-        if let Some(why) = self.no_plan() {
-            return Err(why);
-        }
-        let nodes = self.tables.grown_nodes(&self.network);
-        let edges = self.tables.grown_edges(&self.network, &nodes);
+        self.check_plan()?;
+        let grown = Snapshot {
+            network: &self.network,
+            tables: &self.tables,
+        };
+        let nodes = grown.grown_nodes();
+        let edges = grown.grown_edges(&nodes);
         strong_prune_tree(&self.network, &nodes, &edges, nodes_out, edges_out)
     }
 }

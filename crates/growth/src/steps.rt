@@ -3,32 +3,20 @@ ghost use Rattle.std.specs.Prelude.{◌≡◌};
 ghost use Rattle.network.specs.Networks.{net_of};
 ghost use Rattle.theory.specs.Growth.{start, step};
 ghost use Rattle.theory.specs.Laws.{Laws};
-ghost use Rattle.growth.specs.Grown.{network_of, steps_of, state_of, next_due, event_of, taken_answer, step_answer};
+ghost use Rattle.growth.specs.Grown.{network_of, steps_of, state_of, next_due, taken_answer, step_answer};
 
 use crate::refresh::{fill, refresh};
-use crate::{Event, Growth, Tables};
+use crate::{Event, Growth, Snapshot, Tables};
 use network::Network;
 use queue::EventQueue;
 use refusal::Refusal;
-
-fn event_of(number: usize) -> Event
-    ensures { result ≡ event_of number }
-{
-    if number < 511 {
-        Event::Deactivated { cluster: number }
-    } else {
-        Event::Merged { edge: number - 511 }
-    }
-}
 
 // What a step answers that takes this.
 fn taken(due: Option<(u64, usize)>) -> Result<Event, Refusal>
     ensures { result ≡ taken_answer due }
 {
-    match due {
-        None => Err(Refusal::GrowthEnded),
-        Some((_, number)) => Ok(event_of(number)),
-    }
+    let (_, number) = due.ok_or(Refusal::GrowthEnded)?;
+    Ok(Event::from(number))
 }
 
 impl<Q: EventQueue> Growth<Q> {
@@ -41,7 +29,11 @@ impl<Q: EventQueue> Growth<Q> {
     {
         let mut queue = queue;
         let tables = Tables::open(&network);
-        fill(&mut queue, &tables, &network);
+        let grown = Snapshot {
+            network: &network,
+            tables: &tables,
+        };
+        fill(&mut queue, &grown);
         Growth {
             network,
             tables,
@@ -70,7 +62,11 @@ impl<Q: EventQueue> Growth<Q> {
             return;
         };
         self.tables.happen(&self.network, time, number);
-        refresh(&mut self.queue, &self.tables, &self.network, number);
+        let grown = Snapshot {
+            network: &self.network,
+            tables: &self.tables,
+        };
+        refresh(&mut self.queue, &grown, number);
     }
 
     // One step: what is due first happens. Refused while fewer than two maximal clusters are active, and nothing is changed then.

@@ -5,15 +5,14 @@ ghost use Rattle.theory.specs.Nets.{edge_count};
 ghost use Rattle.theory.specs.Growth.{grow};
 ghost use Rattle.theory.specs.Prune.{marked, grown_node, grown_edge};
 ghost use Rattle.pruning.specs.Written.{edges_among};
-ghost use Rattle.growth.specs.Shown.{Shown};
 ghost use Rattle.growth.specs.Plans.{shape_of};
 
 use crate::cluster::Phase;
 use crate::memberships::grows;
 use crate::reads::edge_at;
-use crate::{Cluster, Family, Tables};
-use network::Network;
+use crate::{Cluster, Family, Snapshot};
 use pruning::Shape;
+use std::array;
 
 impl Cluster {
     fn shape(&self) -> Shape
@@ -35,44 +34,52 @@ impl Family {
     }
 }
 
-impl Tables {
-    // Marks the nodes of the grown tree.
-    pub(crate) fn grown_nodes(&self, network: &Network) -> [u8; 256]
-        requires { Shown (net_of network.now) self.now }
-        ensures long { length result ≡ 256 }
-        ensures value { marked result ≡ grown_node (grow (net_of network.now) self.now.steps).slots }
+impl Snapshot<'_> {
+    // Whether a node is in the grown tree: it is entered, and its cluster grows.
+    fn is_grown(&self, v: usize) -> bool
+        requires { v < 256 }
+        ensures { result ≡ grown_node (grow (net_of self.now.network.now) self.now.tables.now.steps).slots v }
     {
-        let mut nodes = [0u8; 256];
-        let count = network.prizes().len();
-        for v in 0..count {
-            let grown = grows(&self.family.clusters, self.nodes.list[v].cluster);
-            nodes[v] = grown as u8;
-        }
-        nodes
+        v < self.network.prizes().len()
+            && grows(
+                &self.tables.family.clusters,
+                self.tables.nodes.list[v].cluster,
+            )
+    }
+
+    // Marks the nodes of the grown tree.
+    pub(crate) fn grown_nodes(&self) -> [u8; 256]
+        ensures long { length result ≡ 256 }
+        ensures value { marked result ≡ grown_node (grow (net_of self.now.network.now) self.now.tables.now.steps).slots }
+    {
+        array::from_fn(|v| self.is_grown(v) as u8)
     }
 
     // Whether an edge is chosen and both its ends are among the nodes.
-    fn is_among(&self, network: &Network, nodes: &[u8], s: usize) -> bool
-        requires known { s < edge_count (net_of network.now) }
+    fn is_among(&self, nodes: &[u8], s: usize) -> bool
+        requires known { s < edge_count (net_of self.now.network.now) }
         requires long { length nodes.now ≡ 256 }
-        ensures { result ≡ edges_among (net_of network.now) (marked self.now.chosen.marks) (marked nodes.now) s }
+        ensures { result ≡ edges_among (net_of self.now.network.now) (marked self.now.tables.now.chosen.marks) (marked nodes.now) s }
     {
-        let edge = edge_at(network, s);
-        self.chosen.marks[s] == 1 && nodes[edge.first] == 1 && nodes[edge.second] == 1
+        let edge = edge_at(self.network, s);
+        self.tables.chosen.marks[s] == 1 && nodes[edge.first] == 1 && nodes[edge.second] == 1
+    }
+
+    // Whether an edge is in the grown tree, whose nodes are marked.
+    fn is_tree_edge(&self, nodes: &[u8], s: usize) -> bool
+        requires long { length nodes.now ≡ 256 }
+        requires grown { marked nodes.now ≡ grown_node (grow (net_of self.now.network.now) self.now.tables.now.steps).slots }
+        ensures { result ≡ grown_edge (net_of self.now.network.now) (grow (net_of self.now.network.now) self.now.tables.now.steps).slots s }
+    {
+        s < self.network.edges().len() && self.is_among(nodes, s)
     }
 
     // Marks the edges of the grown tree, whose nodes are marked.
-    pub(crate) fn grown_edges(&self, network: &Network, nodes: &[u8]) -> [u8; 1024]
-        requires shown { Shown (net_of network.now) self.now }
+    pub(crate) fn grown_edges(&self, nodes: &[u8]) -> [u8; 1024]
         requires long { length nodes.now ≡ 256 }
-        requires grown { marked nodes.now ≡ grown_node (grow (net_of network.now) self.now.steps).slots }
-        ensures { marked result ≡ grown_edge (net_of network.now) (grow (net_of network.now) self.now.steps).slots }
+        requires grown { marked nodes.now ≡ grown_node (grow (net_of self.now.network.now) self.now.tables.now.steps).slots }
+        ensures { marked result ≡ grown_edge (net_of self.now.network.now) (grow (net_of self.now.network.now) self.now.tables.now.steps).slots }
     {
-        let mut edges = [0u8; 1024];
-        let count = network.edges().len();
-        for s in 0..count {
-            edges[s] = self.is_among(network, nodes, s) as u8;
-        }
-        edges
+        array::from_fn(|s| self.is_tree_edge(nodes, s) as u8)
     }
 }

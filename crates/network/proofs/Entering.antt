@@ -1,5 +1,5 @@
 -- An entry that is not refused keeps a network valid. Assumes nothing.
-use Rattle.std.proofs.Common.{◌≡◌, ℕ, ◌+◌, ◌<◌, Bool, true, cond, leb, List, [], ◌∷◌, ◌++◌, length, Some, None, Ok, Option, vec_items, vec_len, sym, refl, ap, ◌∙◌, arith}
+use Rattle.std.proofs.Common.{◌≡◌, ℕ, ◌+◌, ◌<◌, Bool, true, cond, leb, List, [], ◌∷◌, ◌++◌, length, Some, None, Ok, Err, Option, vec_items, vec_len, sym, refl, ap, ◌∙◌, arith}
 use Rattle.std.proofs.lemmas.List.{length_push, length-map, map_push}
 use Rattle.std.proofs.lemmas.Bool.{and_parts, and_from}
 use Rattle.std.proofs.lemmas.Bool.Decides.{nat_tests}
@@ -94,3 +94,7 @@ edge_pushed n es e text is same =
 pub not_refused : (why : Option Refusal) → Ok (tt {0}) ≡ answer_of why (tt {0}) → why ≡ None
 not_refused None e = refl
 not_refused (Some why) e = grind arith
+
+pub refused_with : (why : Option Refusal) (e : Refusal) → Err e ≡ answer_of why (tt {0}) → Some e ≡ why
+refused_with None e is = grind arith
+refused_with (Some why) e is = cc

@@ -5,10 +5,10 @@ use Rattle.growth.proofs.refresh.refresh_edges.Goals as goal
 
 pub refresh_edge-requires : goal.refresh_edge-requires
 refresh_edge-requires g c =
-    let count = edges_counted (net_of c.args.network.now) c.edges-count.result.now c.edges-count.ensures in
-    record { shown = c.requires; known = omega arith }
+    let count = edges_counted (net_of c.args.grown.now.network.now) c.edges-count.result.now c.edges-count.ensures in
+    omega arith
 
 pub returns : goal.returns
 returns g c =
-    let count = edges_counted (net_of c.args.network.now) c.edges-count.result.now c.edges-count.ensures in
+    let count = edges_counted (net_of c.args.grown.now.network.now) c.edges-count.result.now c.edges-count.ensures in
     record { caught = c.loop-s.invariant.0; here = λ s l. c.loop-s.invariant.1 s (omega arith) }

@@ -27,10 +27,13 @@ refresh-requires g c =
     let s = c.self.inside in
     let due = sym c.in-Some.is ∙ c.requires.due ∙ ap (λ x. next_due (network_of x) (state_of x)) (sym c.self.view_is) in
     let sound = c.self.invariant in
-    record {
-      shown = next_shown _ s.network.valid s.tables _ sound c.in-Some.time c.in-Some.number due c.happen.new.self c.happen.ensures;
-      some = some_formed _ s.network.valid s.tables _ sound c.in-Some.time c.in-Some.number due c.happen.new.self c.happen.ensures;
-    }
+    some_formed _ s.network.valid s.tables _ sound c.in-Some.time c.in-Some.number due c.happen.new.self c.happen.ensures
+
+pub invariant_of-grown : goal.invariant_of-grown
+invariant_of-grown g c =
+    let s = c.self.inside in
+    let due = sym c.in-Some.is ∙ c.requires.due ∙ ap (λ x. next_due (network_of x) (state_of x)) (sym c.self.view_is) in
+    record { shown = next_shown _ s.network.valid s.tables _ c.self.invariant c.in-Some.time c.in-Some.number due c.happen.new.self c.happen.ensures }
 
 pub invariant_of-self : goal.invariant_of-self
 invariant_of-self g c =

@@ -5,16 +5,16 @@ use Rattle.theory.specs.Growth.{grow}
 use Rattle.theory.proofs.Laws.{formed_by_number, numbers_stay_small}
 use Rattle.theory.proofs.Valid.{fine}
 use Rattle.growth.proofs.Slacks.{Between, depths_at, between}
-use Rattle.growth.proofs.tables.Tables.edge_due.Goals as goal
-use Rattle.growth.proofs.tables.Tables.edge_due.Goals.{After-edge_at-edge}
+use Rattle.growth.proofs.snapshot.Snapshot.edge_due.Goals as goal
+use Rattle.growth.proofs.snapshot.Snapshot.edge_due.Goals.{After-edge_at-edge}
 
 read : (c : goal.After-edge_at-edge) →
-    Between (net_of c.args.network.now) c.args.self.now (grow (net_of c.args.network.now) c.args.self.now.steps) c.args.s c.edge_at-edge.result.first c.edge_at-edge.result.second c.edge_at-edge.result.cost
+    Between (net_of c.args.self.now.network.now) c.args.self.now.tables.now (grow (net_of c.args.self.now.network.now) c.args.self.now.tables.now.steps) c.args.s c.edge_at-edge.result.first c.edge_at-edge.result.second c.edge_at-edge.result.cost
 read c =
-    let net = net_of c.args.network.now in
-    let t = c.args.self.now in
-    let valid = c.args.network.now.valid in
-    between net t (grow net t.steps) (fine net valid) (formed_by_number net valid t.steps) (numbers_stay_small net valid t.steps) c.requires.shown c.args.s _ _ _ c.requires.known c.edge_at-edge.ensures.first c.edge_at-edge.ensures.second c.edge_at-edge.ensures.cost
+    let net = net_of c.args.self.now.network.now in
+    let t = c.args.self.now.tables.now in
+    let valid = c.args.self.now.network.now.valid in
+    between net t (grow net t.steps) (fine net valid) (formed_by_number net valid t.steps) (numbers_stay_small net valid t.steps) c.args.self.now.shown c.args.s _ _ _ c.requires c.edge_at-edge.ensures.first c.edge_at-edge.ensures.second c.edge_at-edge.ensures.cost
 
 pub returns-then-first-second : goal.returns-then-first-second
 returns-then-first-second c = sym ((read (goal.at.returns-then-first-second c).After-edge_at-edge).one c.if-first-second.true)
@@ -33,7 +33,7 @@ slack_due-requires c = let b = (read (goal.at.slack_due-requires c).After-edge_a
 
 pub returns : goal.returns
 returns c =
-    let t = c.args.self.now in
+    let t = c.args.self.now.tables.now in
     let e = c.edge_at-edge.result in
     c.slack_due.ensures
     ∙ (λ i. slack_due (c.grows.ensures i) (c.grows-2.ensures i) t.time (2 * e.cost - depths_at t e.first e.second))
