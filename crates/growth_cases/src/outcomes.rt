@@ -45,11 +45,7 @@ pub(crate) fn fold(sum: u64, next: u64) -> u64 {
 }
 
 pub(crate) fn fold_marks(marks: &[u8]) -> u64 {
-    let mut sum = 0;
-    for mark in marks {
-        sum = fold(sum, *mark as u64);
-    }
-    sum
+    marks.iter().fold(0, |sum, mark| fold(sum, *mark as u64))
 }
 
 // A cluster's parts, counted from 1, its state and its moat.
@@ -71,26 +67,15 @@ fn fold_cluster(sum: u64, cluster: Result<Standing, Refusal>) -> u64 {
     )
 }
 
-fn fold_clusters<Q: EventQueue>(growth: &Growth<Q>) -> u64
-{
-    let mut sum = 0;
-    for c in 0..511usize {
-        sum = fold_cluster(sum, growth.cluster(c));
-    }
-    sum
+fn fold_clusters<Q: EventQueue>(growth: &Growth<Q>) -> u64 {
+    (0..511).fold(0, |sum, c| fold_cluster(sum, growth.cluster(c)))
 }
 
-fn fold_chosen<Q: EventQueue>(growth: &Growth<Q>) -> u64
-{
-    let mut sum = 0;
-    for s in 0..growth.network().edges().len() {
-        sum = fold(sum, growth.is_chosen(s) as u64);
-    }
-    sum
+fn fold_chosen<Q: EventQueue>(growth: &Growth<Q>) -> u64 {
+    (0..growth.network().edges().len()).fold(0, |sum, s| fold(sum, growth.is_chosen(s) as u64))
 }
 
-pub(crate) fn outcome_of<Q: EventQueue>(growth: &Growth<Q>) -> Result<Outcome, Fail>
-{
+pub(crate) fn outcome_of<Q: EventQueue>(growth: &Growth<Q>) -> Result<Outcome, Fail> {
     let mut plan = UNWRITTEN;
     let mut strong = UNWRITTEN;
     let figures = Figures {

@@ -17,8 +17,7 @@ fn refuses_both<Q: EventQueue>(
     nodes: &mut [u8],
     edges: &mut [u8],
     why: Refusal,
-) -> Result<(), Fail>
-{
+) -> Result<(), Fail> {
     assert_eq!(rt; growth.prune(nodes, edges), Err(why));
     assert_eq!(rt; growth.strong_prune(nodes, edges), Err(why));
     Ok(())
@@ -31,8 +30,7 @@ fn check_refused<Q: EventQueue>(
     nodes: usize,
     edges: usize,
     why: Refusal,
-) -> Result<(), Fail>
-{
+) -> Result<(), Fail> {
     let mut node_list = [9u8; 8];
     let mut edge_list = [9u8; 8];
     assert!(rt; nodes <= 8 && edges <= 8);
@@ -53,17 +51,15 @@ fn check_all_refused<Q: EventQueue>(
     growth: &Growth<Q>,
     lengths: &[(usize, usize)],
     why: Refusal,
-) -> Result<(), Fail>
-{
-    for i in 0..lengths.len() {
-        check_refused(rt, growth, lengths[i].0, lengths[i].1, why)?;
+) -> Result<(), Fail> {
+    for &(nodes, edges) in lengths {
+        check_refused(rt, growth, nodes, edges, why)?;
     }
     Ok(())
 }
 
 // Lists that are just long enough are written whole, longer ones only at the front.
-fn check_taken<Q: EventQueue>(rt: &impl Abort, growth: &Growth<Q>) -> Result<(), Fail>
-{
+fn check_taken<Q: EventQueue>(rt: &impl Abort, growth: &Growth<Q>) -> Result<(), Fail> {
     let mut nodes = [9u8; 7];
     let mut edges = [9u8; 6];
     let pruned = growth.prune(&mut nodes, &mut edges);
@@ -83,8 +79,7 @@ fn refuses_step<Q: EventQueue>(
     rt: &impl Abort,
     growth: &mut Growth<Q>,
     steps: usize,
-) -> Result<(), Fail>
-{
+) -> Result<(), Fail> {
     let step = growth.step();
     assert_eq!(rt; step, Err(Refusal::GrowthEnded));
     assert_eq!(rt; growth.steps(), steps);

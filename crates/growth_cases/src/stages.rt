@@ -20,8 +20,7 @@ fn check_asked<Q: EventQueue>(
     rt: &impl Abort,
     growth: &Growth<Q>,
     stage: &Stage,
-) -> Result<(), Fail>
-{
+) -> Result<(), Fail> {
     let times = (growth.time(), growth.total(), growth.lower_bound());
     assert_eq!(rt; times, (stage.time, stage.total, stage.bound));
     let counts = (growth.active(), growth.steps());
@@ -33,8 +32,7 @@ fn check_stage<Q: EventQueue>(
     rt: &impl Abort,
     growth: &mut Growth<Q>,
     stage: &Stage,
-) -> Result<(), Fail>
-{
+) -> Result<(), Fail> {
     let event = growth.step();
     assert_eq!(rt; event, Ok(stage.event));
     check_asked(rt, growth, stage)
@@ -44,10 +42,9 @@ pub(crate) fn check_stages<Q: EventQueue>(
     rt: &impl Abort,
     growth: &mut Growth<Q>,
     stages: &[Stage],
-) -> Result<(), Fail>
-{
-    for i in 0..stages.len() {
-        check_stage(rt, growth, &stages[i])?;
+) -> Result<(), Fail> {
+    for stage in stages {
+        check_stage(rt, growth, stage)?;
     }
     Ok(())
 }
@@ -57,8 +54,7 @@ pub(crate) fn check_ended<Q: EventQueue>(
     rt: &impl Abort,
     growth: &mut Growth<Q>,
     last: &Stage,
-) -> Result<(), Fail>
-{
+) -> Result<(), Fail> {
     let refused = growth.step();
     assert_eq!(rt; refused, Err(Refusal::GrowthEnded));
     check_asked(rt, growth, last)
@@ -69,10 +65,8 @@ pub(crate) fn check_clusters<Q: EventQueue>(
     rt: &impl Abort,
     growth: &Growth<Q>,
     clusters: &[(Option<(usize, usize)>, Phase, u64)],
-) -> Result<(), Fail>
-{
-    for c in 0..clusters.len() {
-        let (parts, phase, moat) = clusters[c];
+) -> Result<(), Fail> {
+    for (c, &(parts, phase, moat)) in clusters.iter().enumerate() {
         let standing = Standing { parts, phase, moat };
         assert_eq!(rt; growth.cluster(c), Ok(standing));
     }
@@ -88,10 +82,9 @@ pub(crate) fn check_chosen<Q: EventQueue>(
     rt: &impl Abort,
     growth: &Growth<Q>,
     chosen: &[bool],
-) -> Result<(), Fail>
-{
-    for s in 0..chosen.len() {
-        assert_eq!(rt; growth.is_chosen(s), chosen[s]);
+) -> Result<(), Fail> {
+    for (s, marked) in chosen.iter().enumerate() {
+        assert_eq!(rt; growth.is_chosen(s), *marked);
     }
     assert_eq!(rt; growth.is_chosen(chosen.len()), false);
     assert_eq!(rt; growth.is_chosen(1024), false);

@@ -10,16 +10,14 @@ use queue::{EventQueue, FlatQueue, HeapQueue};
 use std::process::Abort;
 use std::test::*;
 
-fn play_first<Q: EventQueue>(rt: &impl Abort, growth: &mut Growth<Q>) -> Result<(), Fail>
-{
+fn play_first<Q: EventQueue>(rt: &impl Abort, growth: &mut Growth<Q>) -> Result<(), Fail> {
     check_clusters(rt, growth, &[(None, Active, 0); 5])?;
     check_stages(rt, growth, &FIRST)?;
     check_clusters(rt, growth, &AFTER_FIRST)?;
     check_chosen(rt, growth, &[false, true, false, false])
 }
 
-fn play_then<Q: EventQueue>(rt: &impl Abort, growth: &mut Growth<Q>) -> Result<(), Fail>
-{
+fn play_then<Q: EventQueue>(rt: &impl Abort, growth: &mut Growth<Q>) -> Result<(), Fail> {
     check_stages(rt, growth, &THEN)?;
     check_ended(rt, growth, &THEN[2])?;
     check_clusters(rt, growth, &AT_END)?;
