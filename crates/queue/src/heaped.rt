@@ -1,5 +1,6 @@
 // The heap queue, which keeps a key for each entry of its table in a heap.
-ghost use Rattle.std.specs.Prelude.{◌≡◌, ◌≤◌, ◌++◌, length};
+ghost use Rattle.std.specs.Prelude.{◌≡◌, ◌<◌, ◌≤◌, ◌++◌, length, MatchResult};
+ghost use Rattle.refusal.specs.declared.Refusal.TheVariants.{ListTooShort};
 ghost use Rattle.std.specs.List.Sorted.{IsPermutation};
 ghost use Rattle.std.specs.List.{ContainsAt, AllByRecursion};
 ghost use Rattle.heap.specs.Bags.{bag_of, room_of};
@@ -13,7 +14,7 @@ use heap::Heap;
 use refusal::Refusal;
 
 // On a list of 1,535 keys or more the heap holds the key of each entry of the table, once, and no other.
-// On a shorter one it may lack some: the queue then looks through its table, and `check_room` refuses such a list beforehand.
+// On a shorter one it may lack some: the queue then looks through its table, and `try_open` refuses such a list, as `check_room` does.
 #[derive(Drop)]
 pub struct HeapQueue<'a> {
     heap: Heap<'a, TimedKey>,
@@ -31,6 +32,14 @@ impl<'a> HeapQueue<'a> {
             return Err(Refusal::ListTooShort);
         }
         Ok(())
+    }
+
+    // An empty queue on the list, unless that is too short for a key of every number.
+    pub fn try_open(keys: &'a mut [TimedKey]) -> Result<HeapQueue<'a>, Refusal>
+        ensures { MatchResult result (λ q. (q.times ≡ no_entries) × (1535 ≤ length keys.old)) (λ why. (why ≡ ListTooShort) × (length keys.old < 1535)) }
+    {
+        HeapQueue::check_room(keys)?;
+        Ok(HeapQueue::open(keys))
     }
 
     // An empty queue on the list, whatever that held.

@@ -89,3 +89,15 @@ fn on_a_short_list(rt: HostRuntime) -> Result<(), Fail> {
     plays(&rt, &mut queue);
     drains(&rt, &mut queue)
 }
+
+#[test]
+fn opened_where_there_is_room(rt: HostRuntime) -> Result<(), Fail> {
+    let mut keys = [BLANK; 1535];
+    let mut queue = HeapQueue::try_open(&mut keys)?;
+    plays(&rt, &mut queue);
+    drains(&rt, &mut queue)?;
+    let mut few = [BLANK; 1534];
+    let refused = HeapQueue::try_open(&mut few).map(|_| ());
+    assert_eq!(rt; refused, Err(Refusal::ListTooShort));
+    Ok(())
+}
