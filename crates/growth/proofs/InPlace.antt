@@ -30,9 +30,6 @@ module _ {X : Type 0} (f : X → X) (xs ys : List X) (i : ℕ) (is : ys ≡ map 
       ∙ get_or-drop i xs (i - i) d
       ∙ ap (λ k. get_or xs k d) (omega arith)
 
-  pub all_reached : length xs ≤ i → ys ≡ map f xs
-  all_reached l = is ∙ (λ k. map f (take_all i xs l k) ++ drop_all i xs l k) ∙ append-nil (map f xs)
-
 -- a sum over a list, by number
 sum_below : {X : Type 0} (f : X → ℕ) (d : X) (xs : List X) (n : ℕ) → n ≤ length xs → sum_by f (take n xs) ≡ sum_to n (λ k. f (get_or xs k d))
 sum_below f d xs zero l = refl
