@@ -1,6 +1,6 @@
 -- Lists of one value, and a map in place, one element more at a time. Assumes nothing.
-use Rattle.std.proofs.Common.{◌≡◌, ℕ, zero, suc, ◌+◌, ◌-◌, ◌<◌, ◌≤◌, List, ◌++◌, map, length, get_or, take, drop, replicate, refl, sym, ap, ◌∙◌, ⊎_elim, append-nil, length-append, length-drop, add-one, arith}
-use Rattle.std.proofs.lemmas.List.{length-map, length-take-le, length-replicate, get_or-replicate, get_or_past, get_or-append_right, get_or-drop, take_all, drop_all}
+use Rattle.std.proofs.Common.{◌≡◌, ℕ, zero, suc, ◌+◌, ◌-◌, ◌<◌, ◌≤◌, List, ◌++◌, map, length, get_or, take, drop, replicate, refl, sym, ap, ◌∙◌, ⊎_elim, length-append, length-drop, add-one, arith}
+use Rattle.std.proofs.lemmas.List.{length-map, length-take-le, length-replicate, get_or-replicate, get_or_past, get_or-append_right, get_or-drop, take_all}
 use Rattle.std.proofs.lemmas.Bool.{cases_lt}
 use Rattle.std.specs.List.{sum_by}
 use Rattle.std.proofs.lemmas.List.Sums.{sum_by_more}
