@@ -4,6 +4,8 @@ use Rattle.std.specs.Option.{option_map, option_to_list}
 use Rattle.std.specs.List.{flat_map, AllByRecursion}
 use Rattle.std.proofs.lemmas.Bool.{and_parts, leb-true, true≢false}
 use Rattle.std.proofs.lemmas.Bool.Decides.{nat_tests}
+use Rattle.std.proofs.lemmas.Grind.{flat_map-append}
+use Rattle.std.proofs.lemmas.List.Folds.{flat_map-map}
 use Rattle.refusal.specs.declared.Refusal.{Refusal}
 use Rattle.network.specs.Codes.{all}
 use Rattle.network.specs.Nets.{Net, Link, empty_net, valid, valid_prize, valid_link}
@@ -17,7 +19,6 @@ use Rattle.sheet.specs.Rounds.{line_entries, entries_within, entries_of, is_edge
 use Rattle.sheet.proofs.Entering.{Shorter, line_shorter, parsed_shorter, sheet_more}
 use Rattle.sheet.proofs.Written.{node_parsed, edge_parsed, Writable}
 use Rattle.sheet.proofs.Standard.{entry_line, read_standard, none_some}
-use Rattle.sheet.proofs.Lays.{joined_append}
 
 -- a network with some entries more
 abbrev entered : Net → List Entry → Net
@@ -102,16 +103,8 @@ nodes_first_lines (edge e ∷ es) h = let o = edges_only es h in ap (λ ps. flat
 abbrev all_entries : Net → List Entry
 all_entries net = map node net.prizes ++ map edge net.edges
 
-node_lines : (ps : List ℕ) → flat_map entry_line (map node ps) ≡ flat_map node_line ps
-node_lines [] = refl
-node_lines (p ∷ ps) = ap (λ r. node_line p ++ r) (node_lines ps)
-
-edge_lines : (es : List Link) → flat_map entry_line (map edge es) ≡ flat_map edge_line es
-edge_lines [] = refl
-edge_lines (e ∷ es) = ap (λ r. edge_line e ++ r) (edge_lines es)
-
 written_lines : (net : Net) → sheet_of net ≡ flat_map entry_line (all_entries net)
-written_lines net = sym (joined_append entry_line (map node net.prizes) (map edge net.edges) ∙ λ i. node_lines net.prizes i ++ edge_lines net.edges i)
+written_lines net = sym (flat_map-append entry_line (map node net.prizes) (map edge net.edges) ∙ λ i. flat_map-map entry_line node net.prizes i ++ flat_map-map entry_line edge net.edges i)
 
 all_edges : (es : List Link) → all is_edge (map edge es) ≡ true
 all_edges [] = refl
