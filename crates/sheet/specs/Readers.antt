@@ -1,6 +1,8 @@
 -- What the reader's parts stand for: the bytes ahead, the field at their front, and a line's entry.
-use Rattle.std.specs.Prelude.{◌≡◌, ℕ, Bool, true, false, cond, ◌&&◌, ◌||◌, List, [], ◌∷◌, ◌++◌, length, drop, Some, None, Option, ◌==◌}
+use Rattle.std.specs.Prelude.{◌≡◌, ℕ, Bool, true, false, cond, ◌&&◌, ◌||◌, List, [], ◌∷◌, ◌++◌, length, drop, Some, None, Ok, Err, Option, Result, ◌==◌}
 use Rattle.std.specs.Option.{option_map}
+use Rattle.refusal.specs.declared.Refusal.{Refusal}
+use Rattle.refusal.specs.declared.Refusal.TheVariants.{LineForm}
 use Rattle.network.specs.Nets.{link}
 use Rattle.sheet.specs.Numbers.{is_number, value_of}
 use Rattle.sheet.specs.Lines.{Line, Entry, node, edge, first_line, entry_from}
@@ -79,3 +81,8 @@ then_line read (Some l) = option_map (λ e. parsed e l.rest) (entry_from (read +
 -- the entry of a line of which some fields are read and these bytes are ahead; none where its form is wrong
 abbrev pub parsed_behind : List (List ℕ) → List ℕ → Option Parsed
 parsed_behind read bytes = then_line read (first_line bytes)
+
+-- what taking the record of a line answers: its entry, and the bytes behind the line are ahead then; or the line has another form
+abbrev pub TakesRecord : List (List ℕ) → ℕ → List ℕ → Result Record Refusal → List ℕ → Type 0
+TakesRecord read line before (Ok r) after = parsed_behind read before ≡ Some (parsed (entry_in r) after)
+TakesRecord read line before (Err why) after = (why ≡ LineForm line) × (parsed_behind read before ≡ None)

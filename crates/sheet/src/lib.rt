@@ -14,4 +14,5 @@ use field::Field;
 pub use loader::SheetLoader;
 use reader::Reader;
 use record::Record;
+use records::Lines;
 pub use writer::write_sheet;

@@ -6,7 +6,7 @@ ghost use Rattle.sheet.specs.Sheets.{read_sheet, read_answer, read_leaves, enter
 ghost use Rattle.sheet.specs.Readers.{entry_in};
 ghost use Rattle.sheet.specs.Rounds.{WriteAfterRead};
 
-use crate::{Reader, Record};
+use crate::{Lines, Record};
 use network::Network;
 use refusal::Refusal;
 use std::alloc::{AllocError, Global};
@@ -24,22 +24,18 @@ fn enter(network: &mut Network, new: Record, line: usize) -> Result<(), Refusal>
             code,
         } => { network.add_edge(first as usize, second as usize, cost, code) }
     };
-    match entered {
-        Ok(_) => Ok(()),
-        Err(_) => Err(Refusal::LineEntry { line }),
-    }
+    entered.map(|_| ()).map_err(|_| Refusal::LineEntry { line })
 }
 
 // Enters line after line; a refusal leaves the lines before it entered.
 fn enter_lines(sheet: &[u8], network: &mut Network) -> Result<(), Refusal>
     ensures { Entered result (net_of network.new) (enter_from (net_of network.old) sheet.now) }
 {
-    let mut reader = Reader::open(sheet);
-    let mut line = 1;
-    while !reader.is_done() {
-        let record = reader.record(line)?;
-        enter(network, record, line)?;
-        line += 1;
+    let mut lines = Lines::open(sheet);
+    while !lines.is_done() {
+        let record = lines.record()?;
+        enter(network, record, lines.line)?;
+        lines.line += 1;
     }
     Ok(())
 }
