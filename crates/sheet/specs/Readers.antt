@@ -1,5 +1,5 @@
 -- What the reader's parts stand for: the bytes ahead, the field at their front, and a line's entry.
-use Rattle.std.specs.Prelude.{◌≡◌, ℕ, Bool, true, false, cond, ◌&&◌, ◌||◌, List, [], ◌∷◌, ◌++◌, length, drop, Some, None, Ok, Err, Option, Result, ◌==◌}
+use Rattle.std.specs.Prelude.{◌≡◌, ℕ, Bool, true, false, cond, ◌&&◌, ◌||◌, List, [], ◌∷◌, ◌++◌, length, drop, Some, None, Ok, Err, Option, Result, ◌==◌, MatchOption}
 use Rattle.std.specs.Option.{option_map}
 use Rattle.refusal.specs.declared.Refusal.{Refusal}
 use Rattle.refusal.specs.declared.Refusal.TheVariants.{LineForm}
@@ -45,6 +45,9 @@ closed_field kind end bytes = kind (field_of bytes) && next_is end (behind_field
 abbrev pub any_letter : List ℕ → Bool
 any_letter field = length field == 1
 
+abbrev pub any_bytes : List ℕ → Bool
+any_bytes field = true
+
 -- the field is of this kind, and shows these bytes of the sheet at this place
 abbrev pub LetterAt : Field → List ℕ → ℕ → Type 0
 LetterAt (Letter bytes at) field place = (bytes.now ≡ field) × (at ≡ place) × (length field ≡ 1)
@@ -60,6 +63,10 @@ abbrev pub CodeAt : Field → List ℕ → ℕ → Type 0
 CodeAt (Letter bytes at) field place = ⊥
 CodeAt (Number bytes at value) field place = ⊥
 CodeAt (Code bytes at) field place = (bytes.now ≡ field) × (at ≡ place)
+
+-- what taking a field answers: one of the kind, shown as said, and the bytes behind its end are ahead then; or none, where no such field comes next
+abbrev pub TakesField : (List ℕ → Bool) → (Field → List ℕ → ℕ → Type 0) → ℕ → Reader → Option Field → Reader → Type 0
+TakesField kind ShownAt end before answer after = MatchOption answer (closed_field kind end (ahead before) ≡ false) (λ f. ShownAt f (field_of (ahead before)) before.at × (behind_field (ahead before) ≡ end ∷ ahead after))
 
 -- what a record enters
 abbrev pub entry_in : Record → Entry

@@ -2,7 +2,7 @@
 ghost use Rattle.std.specs.Prelude.{◌≡◌, ◌<◌, ◌≤◌, false, ◌∷◌, length, drop, MatchOption};
 ghost use Rattle.std.specs.List.{between};
 ghost use Rattle.sheet.specs.Numbers.{is_number};
-ghost use Rattle.sheet.specs.Readers.{ahead, is_empty, field_of, behind_field, next_is, any_letter, LetterAt, NumberAt, CodeAt, closed_field};
+ghost use Rattle.sheet.specs.Readers.{ahead, is_empty, field_of, behind_field, next_is, any_letter, any_bytes, LetterAt, NumberAt, CodeAt, TakesField};
 
 use crate::number::number_of;
 use crate::{Field, Reader};
@@ -36,14 +36,14 @@ impl<'a> Reader<'a> {
 
     // A field of one byte.
     pub(crate) fn letter(&mut self, end: u8) -> Option<Field<'a>>
-        ensures { MatchOption result (closed_field any_letter end (ahead self.old) ≡ false) (λ f. LetterAt f (field_of (ahead self.old)) self.old.at × (behind_field (ahead self.old) ≡ end ∷ ahead self.new)) }
+        ensures { TakesField any_letter LetterAt end self.old result self.new }
     {
         let (bytes, place) = self.field(end)?;
         (bytes.len() == 1).then_some(Field::Letter(bytes, place))
     }
 
     pub(crate) fn number(&mut self, end: u8) -> Option<Field<'a>>
-        ensures { MatchOption result (closed_field is_number end (ahead self.old) ≡ false) (λ f. NumberAt f (field_of (ahead self.old)) self.old.at × (behind_field (ahead self.old) ≡ end ∷ ahead self.new)) }
+        ensures { TakesField is_number NumberAt end self.old result self.new }
     {
         let (bytes, place) = self.field(end)?;
         Some(Field::Number(bytes, place, number_of(bytes)?))
@@ -51,7 +51,7 @@ impl<'a> Reader<'a> {
 
     // Any bytes have a code's form, also none: whether they are a code, the network judges.
     pub(crate) fn code(&mut self, end: u8) -> Option<Field<'a>>
-        ensures { MatchOption result (next_is end (behind_field (ahead self.old)) ≡ false) (λ f. CodeAt f (field_of (ahead self.old)) self.old.at × (behind_field (ahead self.old) ≡ end ∷ ahead self.new)) }
+        ensures { TakesField any_bytes CodeAt end self.old result self.new }
     {
         let (bytes, place) = self.field(end)?;
         Some(Field::Code(bytes, place))
