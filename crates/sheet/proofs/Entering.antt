@@ -3,11 +3,15 @@ use Rattle.std.proofs.Common.{◌≡◌, ℕ, zero, suc, ◌+◌, ◌<◌, ◌�
 use Rattle.std.proofs.lemmas.Bool.{true≢false}
 use Rattle.std.specs.Option.{option_map}
 use Rattle.refusal.specs.declared.Refusal.{Refusal}
-use Rattle.refusal.specs.declared.Refusal.TheVariants.{LineForm}
-use Rattle.network.specs.Nets.{Net}
+use Rattle.refusal.specs.declared.Refusal.TheVariants.{LineForm, LineEntry}
+use Rattle.network.specs.Nets.{Net, link}
+use Rattle.network.specs.Entries.{node_refusal, edge_refusal, answer_of}
+use Rattle.network.specs.Lists.{given, enter_answer}
+use Rattle.network.specs.declared.entry.Entry.{Entry as NetworkEntry}
+use Rattle.network.specs.declared.entry.Entry.TheVariants.{Node, Edge}
 use Rattle.sheet.specs.Lines.{Line, Entry, field_before, byte_before, first_line, entry_from}
-use Rattle.sheet.specs.Sheets.{enter_record, enter_fields, then_enter, enter_line, enter_lines}
-use Rattle.sheet.specs.Readers.{is_empty, parsed, then_line, parsed_behind}
+use Rattle.sheet.specs.Sheets.{unless_line_refused, enter_record, enter_fields, then_enter, enter_line, enter_lines}
+use Rattle.sheet.specs.Readers.{is_empty, entry_in, parsed, then_line, parsed_behind}
 
 -- the bytes behind a line are fewer
 abbrev pub Shorter : ℕ → Option Line → Type 0
@@ -94,3 +98,12 @@ sheet_entry_refused line net (c ∷ cs) rest e why h k =
 pub sheet_form_refused : (line : ℕ) (net : Net) (bs : List ℕ) → is_empty bs ≡ false → parsed_behind [] bs ≡ None → enter_lines (length bs) line net bs ≡ Err (LineForm line)
 sheet_form_refused line net [] some h = absurd (true≢false some)
 sheet_form_refused line net (c ∷ cs) some h = line_refuses line net (first_line (c ∷ cs)) (enter_lines (length cs) (line + 1)) h
+
+by_refusal : (after : Net) (line number : ℕ) (why : Refusal) (o : Option Refusal) → answer_of o number ≡ Err why → unless_line_refused line o after ≡ Err (LineEntry line)
+by_refusal after line number why None h = let z : ◌≡◌ {A = ℕ} 0 1 = cc in absurd (omega arith)
+by_refusal after line number why (Some w) h = refl
+
+-- a refusal of the network is the line's
+pub entry_refused : (line : ℕ) (net : Net) (new : NetworkEntry) (why : Refusal) → enter_answer net (given new) ≡ Err why → enter_record line net (entry_in new) ≡ Err (LineEntry line)
+entry_refused line net (Node prize) why h = by_refusal _ line (length net.prizes) why (node_refusal net prize) h
+entry_refused line net (Edge first second cost code) why h = by_refusal _ line (length net.edges) why (edge_refusal net (link first second cost code.now)) h

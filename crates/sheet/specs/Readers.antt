@@ -4,13 +4,13 @@ use Rattle.std.specs.Option.{option_map}
 use Rattle.refusal.specs.declared.Refusal.{Refusal}
 use Rattle.refusal.specs.declared.Refusal.TheVariants.{LineForm}
 use Rattle.network.specs.Nets.{link}
+use Rattle.network.specs.declared.entry.Entry.{Entry as NetworkEntry}
+use Rattle.network.specs.declared.entry.Entry.TheVariants.{Node, Edge}
 use Rattle.sheet.specs.Numbers.{is_number, value_of}
 use Rattle.sheet.specs.Lines.{Line, Entry, node, edge, first_line, entry_from}
 use Rattle.sheet.specs.declared.reader.Reader.{Reader}
 use Rattle.sheet.specs.declared.field.Field.{Field}
 use Rattle.sheet.specs.declared.field.Field.TheVariants.{Letter, Number, Code}
-use Rattle.sheet.specs.declared.record.Record.{Record}
-use Rattle.sheet.specs.declared.record.Record.TheVariants.{Node, Edge}
 
 -- the bytes not yet read
 abbrev pub ahead : Reader → List ℕ
@@ -68,8 +68,8 @@ CodeAt (Code bytes at) field place = (bytes.now ≡ field) × (at ≡ place)
 abbrev pub TakesField : (List ℕ → Bool) → (Field → List ℕ → ℕ → Type 0) → ℕ → Reader → Option Field → Reader → Type 0
 TakesField kind ShownAt end before answer after = MatchOption answer (closed_field kind end (ahead before) ≡ false) (λ f. ShownAt f (field_of (ahead before)) before.at × (behind_field (ahead before) ≡ end ∷ ahead after))
 
--- what a record enters
-abbrev pub entry_in : Record → Entry
+-- what a record enters, as the code has it
+abbrev pub entry_in : NetworkEntry → Entry
 entry_in (Node prize) = node prize
 entry_in (Edge first second cost code) = edge (link first second cost code.now)
 
@@ -90,6 +90,6 @@ abbrev pub parsed_behind : List (List ℕ) → List ℕ → Option Parsed
 parsed_behind read bytes = then_line read (first_line bytes)
 
 -- what taking the record of a line answers: its entry, and the bytes behind the line are ahead then; or the line has another form
-abbrev pub TakesRecord : List (List ℕ) → ℕ → List ℕ → Result Record Refusal → List ℕ → Type 0
+abbrev pub TakesRecord : List (List ℕ) → ℕ → List ℕ → Result NetworkEntry Refusal → List ℕ → Type 0
 TakesRecord read line before (Ok r) after = parsed_behind read before ≡ Some (parsed (entry_in r) after)
 TakesRecord read line before (Err why) after = (why ≡ LineForm line) × (parsed_behind read before ≡ None)

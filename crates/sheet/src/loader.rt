@@ -6,25 +6,19 @@ ghost use Rattle.sheet.specs.Sheets.{read_sheet, read_answer, read_leaves, enter
 ghost use Rattle.sheet.specs.Readers.{entry_in};
 ghost use Rattle.sheet.specs.Rounds.{WriteAfterRead};
 
-use crate::{Lines, Record};
-use network::Network;
+use crate::Lines;
+use network::{Entry, Network};
 use refusal::Refusal;
 use std::alloc::{AllocError, Global};
 
 // Enters what a line says; a refusal of the network becomes the line's.
-fn enter(network: &mut Network, new: Record, line: usize) -> Result<(), Refusal>
+fn enter(network: &mut Network, new: Entry, line: usize) -> Result<(), Refusal>
     ensures { Entered result (net_of network.new) (enter_record line (net_of network.old) (entry_in new.entry)) }
 {
-    let entered = match new {
-        Record::Node { prize } => network.add_node(prize),
-        Record::Edge {
-            first,
-            second,
-            cost,
-            code,
-        } => { network.add_edge(first as usize, second as usize, cost, code) }
-    };
-    entered.map(|_| ()).map_err(|_| Refusal::LineEntry { line })
+    match network.enter(&new) {
+        Ok(_) => Ok(()),
+        Err(_) => Err(Refusal::LineEntry { line }),
+    }
 }
 
 // Enters line after line; a refusal leaves the lines before it entered.

@@ -4,7 +4,8 @@ ghost use Rattle.refusal.specs.declared.Refusal.TheVariants.{LineForm};
 ghost use Rattle.sheet.specs.Numbers.{is_number, value_of};
 ghost use Rattle.sheet.specs.Readers.{ahead, is_empty, field_of, behind_field, closed_field, TakesRecord};
 
-use crate::{Field, Reader, Record};
+use crate::{Field, Reader};
+use network::Entry;
 use refusal::Refusal;
 
 // A sheet's lines, by number: `line` is the one that is read next.
@@ -49,16 +50,16 @@ impl<'a> Lines<'a> {
     }
 
     // A node's prize.
-    fn node_record(&mut self) -> Result<Record<'a>, Refusal>
+    fn node_record(&mut self) -> Result<Entry<'a>, Refusal>
         ensures taken { TakesRecord ((78 ∷ []) ∷ []) self.old.line (ahead self.old.reader) result (ahead self.new.reader) }
         ensures line { self.new.line ≡ self.old.line }
     {
         let prize = self.value(b'\n')?;
-        Ok(Record::Node { prize })
+        Ok(Entry::Node { prize })
     }
 
     // An edge's two ends, its cost and its code.
-    fn edge_record(&mut self) -> Result<Record<'a>, Refusal>
+    fn edge_record(&mut self) -> Result<Entry<'a>, Refusal>
         ensures taken { TakesRecord ((83 ∷ []) ∷ []) self.old.line (ahead self.old.reader) result (ahead self.new.reader) }
         ensures line { self.new.line ≡ self.old.line }
     {
@@ -68,16 +69,16 @@ impl<'a> Lines<'a> {
         let Some(Field::Code(code, _)) = self.reader.code(b'\n') else {
             return Err(self.bad_form());
         };
-        Ok(Record::Edge {
-            first,
-            second,
+        Ok(Entry::Edge {
+            first: first as usize,
+            second: second as usize,
             cost,
             code,
         })
     }
 
     // The record of the line, up to and with its line feed.
-    pub(crate) fn record(&mut self) -> Result<Record<'a>, Refusal>
+    pub(crate) fn record(&mut self) -> Result<Entry<'a>, Refusal>
         ensures taken { TakesRecord [] self.old.line (ahead self.old.reader) result (ahead self.new.reader) }
         ensures line { self.new.line ≡ self.old.line }
     {
