@@ -14,9 +14,7 @@ fn print_sheet(rt: &impl Print, network: &Network) -> anyhow::Result<()> {
     let mut text = [0u8; MOST_TEXT];
     match write_sheet(network, &mut text) {
         Ok(len) => {
-            if let Some(bytes) = text.get(..len) {
-                io::writer(rt).write_all(bytes)?;
-            }
+            io::writer(rt).write_all(&text[..len])?;
             Ok(())
         }
         Err(why) => print_refusal(rt, why),
