@@ -78,6 +78,7 @@ impl<'a> Lines<'a> {
     }
 
     // The record of the line, up to and with its line feed.
+    #[tactic(auto, using(crate::proofs::Forms::letter_refused, crate::proofs::Forms::other_refused))]
     pub(crate) fn record(&mut self) -> Result<Entry<'a>, Refusal>
         ensures taken { TakesRecord [] self.old.line (ahead self.old.reader) result (ahead self.new.reader) }
         ensures line { self.new.line ≡ self.old.line }

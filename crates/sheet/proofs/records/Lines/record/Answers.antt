@@ -3,9 +3,6 @@ use Rattle.sheet.specs.Readers.{ahead, field_of}
 use Rattle.sheet.proofs.Forms.{letter_refused, other_refused, behind_letter}
 use Rattle.sheet.proofs.records.Lines.record.Goals as goal
 
-pub returns-in_default-clause-taken : goal.returns-in_default-clause-taken
-returns-in_default-clause-taken c = let h = letter_refused (ahead c.args.self.now.reader) in search rules
-
 pub returns-in-N-clause-taken : goal.returns-in-N-clause-taken
 returns-in-N-clause-taken c =
     let r = ahead c.args.self.now.reader in
@@ -20,5 +17,3 @@ returns-in-S-clause-taken c =
     let is : get_or (field_of r) 0 0 ≡ 83 = search rules in
     behind_letter r (ahead c.letter.new.self) (ahead c.edge_record.new.self.reader) c.args.self.now.line 83 c.in-Some-Letter.ensures.1 one is c.edge_record.result c.edge_record.ensures.taken
 
-pub returns-in_default-from-clause-taken : goal.returns-in_default-from-clause-taken
-returns-in_default-from-clause-taken c = let h = other_refused (ahead c.args.self.now.reader) in search rules
