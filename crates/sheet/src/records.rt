@@ -50,6 +50,7 @@ impl<'a> Lines<'a> {
     }
 
     // A node's prize.
+    #[tactic(auto, using(crate::proofs::Forms::handed_on, crate::proofs::Forms::node_refused, crate::proofs::Forms::node_accepted))]
     fn node_record(&mut self) -> Result<Entry<'a>, Refusal>
         ensures taken { TakesRecord ((78 ∷ []) ∷ []) self.old.line (ahead self.old.reader) result (ahead self.new.reader) }
         ensures line { self.new.line ≡ self.old.line }
