@@ -50,7 +50,7 @@ impl<'a> Lines<'a> {
     }
 
     // A node's prize.
-    #[tactic(auto, using(crate::proofs::Forms::handed_on, crate::proofs::Forms::node_refused, crate::proofs::Forms::node_accepted))]
+    #[tactic(auto, using(crate::proofs::Forms::handed_on, crate::proofs::Forms::node_refused))]
     fn node_record(&mut self) -> Result<Entry<'a>, Refusal>
         ensures taken { TakesRecord ((78 ∷ []) ∷ []) self.old.line (ahead self.old.reader) result (ahead self.new.reader) }
         ensures line { self.new.line ≡ self.old.line }
@@ -60,6 +60,7 @@ impl<'a> Lines<'a> {
     }
 
     // An edge's two ends, its cost and its code.
+    #[tactic(auto, using(crate::proofs::Forms::handed_on, crate::proofs::Forms::first_refused, crate::proofs::Forms::second_refused, crate::proofs::Forms::cost_refused, crate::proofs::Forms::code_refused))]
     fn edge_record(&mut self) -> Result<Entry<'a>, Refusal>
         ensures taken { TakesRecord ((83 ∷ []) ∷ []) self.old.line (ahead self.old.reader) result (ahead self.new.reader) }
         ensures line { self.new.line ≡ self.old.line }

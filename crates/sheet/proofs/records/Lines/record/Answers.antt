@@ -16,4 +16,3 @@ returns-in-S-clause-taken c =
     let one : length (field_of r) ≡ 1 = search rules in
     let is : get_or (field_of r) 0 0 ≡ 83 = search rules in
     behind_letter r (ahead c.letter.new.self) (ahead c.edge_record.new.self.reader) c.args.self.now.line 83 c.in-Some-Letter.ensures.1 one is c.edge_record.result c.edge_record.ensures.taken
-
