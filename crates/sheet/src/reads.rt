@@ -1,6 +1,5 @@
 // Taking fields and records from a sheet.
-ghost use Rattle.std.specs.Prelude.{◌≡◌, ◌<◌, ◌≤◌, false, ◌∷◌, length, drop, MatchOption};
-ghost use Rattle.std.specs.List.{between};
+ghost use Rattle.std.specs.Prelude.{◌≡◌, false, ◌∷◌, MatchOption};
 ghost use Rattle.sheet.specs.Numbers.{is_number};
 ghost use Rattle.sheet.specs.Readers.{ahead, is_empty, field_of, behind_field, next_is, any_letter, any_bytes, LetterAt, NumberAt, CodeAt, TakesField};
 

@@ -20,6 +20,7 @@ fn put(text: &mut Text, bytes: &[u8])
     requires { array_vec_len text.old + length bytes.now ≤ MOST_BYTES }
     ensures { text.new.items ≡ text.old.items ++ bytes.now }
 {
+    // It fits: the contract asks for the room.
     let _fits = text.try_extend_from_slice(bytes);
 }
 
