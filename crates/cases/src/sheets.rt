@@ -23,10 +23,8 @@ const ENTRY_3: Result<(usize, usize), Refusal> = Err(Refusal::LineEntry { line: 
 fn check_row(rt: &(impl Abort + AllocGlobal), row: &Row) -> Result<(), Fail> {
     let mut network = Network::open(rt.alloc())?;
     let mut loader = SheetLoader::open(rt.alloc())?;
-    let gives = match loader.read(row.sheet, &mut network) {
-        Ok(()) => Ok((network.prizes().len(), network.edges().len())),
-        Err(why) => Err(why),
-    };
+    let answer = loader.read(row.sheet, &mut network);
+    let gives = answer.map(|()| (network.prizes().len(), network.edges().len()));
     assert_eq!(rt; gives, row.gives);
     Ok(())
 }

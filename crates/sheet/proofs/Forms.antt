@@ -1,14 +1,20 @@
 -- A line's record, field by field: what refuses it and what it enters. Assumes nothing.
-use Rattle.std.proofs.Common.{◌≡◌, ℕ, true, false, List, [], ◌∷◌, length, get_or, Some, None, Ok, Err, Result, sym, ap, ◌∙◌, MatchResult}
+use Rattle.std.proofs.Common.{◌≡◌, ℕ, true, false, List, [], ◌∷◌, length, get_or, Some, None, Ok, Err, Result, sym, ap, ◌∙◌}
 use Rattle.std.specs.Option.{option_map}
+use Rattle.std.specs.Result.{IsErrAnd}
+use Rattle.std.proofs.lemmas.Result.{err_from_is_err_and}
 use Rattle.refusal.specs.declared.Refusal.{Refusal}
 use Rattle.refusal.specs.declared.Refusal.TheVariants.{LineForm}
 use Rattle.network.specs.Nets.{link}
 use Rattle.sheet.specs.Numbers.{is_number, value_of}
 use Rattle.sheet.specs.Lines.{node, edge}
-use Rattle.sheet.specs.Readers.{field_of, behind_field, closed_field, next_is, any_letter, entry_in, parsed, parsed_behind}
-use Rattle.sheet.specs.declared.record.Record.{Record}
+use Rattle.sheet.specs.Readers.{field_of, behind_field, closed_field, next_is, any_letter, parsed, parsed_behind, TakesRecord}
+use Rattle.network.specs.declared.entry.Entry.{Entry}
 use Rattle.sheet.proofs.Lines.{N, S, not_tabbed, not_ended, tab_read, line_read, never_read, unended, letter_is, no_letter, letter_alone, other_letter, node_no_prize, node_too_long, node_read, edge_no_first, edge_no_second, edge_no_cost, edge_too_short, edge_too_long, edge_read}
+
+-- a refusal that `?` hands on
+pub handed_on : (read : List (List ℕ)) (line : ℕ) (before after : List ℕ) (why : Refusal) (r : Result Entry Refusal) → IsErrAnd r (λ e. e ≡ why) → why ≡ LineForm line → parsed_behind read before ≡ None → TakesRecord read line before r after
+handed_on read line before after why r is form none = let p = err_from_is_err_and r is in rw (p.1, p.2) (form, none)
 
 pub letter_refused : (r : List ℕ) → closed_field any_letter 9 r ≡ false → parsed_behind [] r ≡ None
 letter_refused r h = not_tabbed any_letter [] r h (λ more e. no_letter (field_of r) more e) (letter_alone (field_of r))
@@ -56,7 +62,9 @@ module _ (r : List ℕ) where
             ∙ λ i. Some (parsed (edge (link (sym p i) (sym q i) (sym w i) (sym k i))) rest)
 
 -- behind its letter a line says what its record says
-module _ (r s : List ℕ) (tab : behind_field r ≡ 9 ∷ s) (after : List ℕ) (line : ℕ) where
-  pub behind_letter : (c : ℕ) → length (field_of r) ≡ 1 → get_or (field_of r) 0 0 ≡ c → (res : Result Record Refusal) → MatchResult res (λ x. parsed_behind ((c ∷ []) ∷ []) s ≡ Some (parsed (entry_in x) after)) (λ why. (why ≡ LineForm line) × (parsed_behind ((c ∷ []) ∷ []) s ≡ None)) → MatchResult res (λ x. parsed_behind [] r ≡ Some (parsed (entry_in x) after)) (λ why. (why ≡ LineForm line) × (parsed_behind [] r ≡ None))
-  behind_letter c one is (Ok x) h = tab_read [] r s tab ∙ ap (λ f. parsed_behind (f ∷ []) s) (letter_is (field_of r) c one is) ∙ h
-  behind_letter c one is (Err why) h = (h.0, tab_read [] r s tab ∙ ap (λ f. parsed_behind (f ∷ []) s) (letter_is (field_of r) c one is) ∙ h.1)
+pub behind_letter : (r s after : List ℕ) (line c : ℕ) → behind_field r ≡ 9 ∷ s → length (field_of r) ≡ 1 → get_or (field_of r) 0 0 ≡ c → (res : Result Entry Refusal) → TakesRecord ((c ∷ []) ∷ []) line s res after → TakesRecord [] line r res after
+behind_letter r s after line c tab one is res h = by_answer res (tab_read [] r s tab ∙ ap (λ f. parsed_behind (f ∷ []) s) (letter_is (field_of r) c one is)) h
+  where
+    by_answer : (res : Result Entry Refusal) → parsed_behind [] r ≡ parsed_behind ((c ∷ []) ∷ []) s → TakesRecord ((c ∷ []) ∷ []) line s res after → TakesRecord [] line r res after
+    by_answer (Ok x) same h = same ∙ h
+    by_answer (Err why) same h = (h.0, same ∙ h.1)

@@ -3,8 +3,6 @@ pub mod Scans
 pub mod Lines
 pub mod Forms
 pub mod Entering
-pub mod Lays
-pub mod Pieces
 pub mod Longest
 pub mod Written
 pub mod Standard

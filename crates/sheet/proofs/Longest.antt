@@ -1,5 +1,5 @@
 -- How long a sheet can be. Assumes nothing.
-use Rattle.std.proofs.Common.{◌≡◌, ℕ, ◌*◌, ◌^◌, ◌<◌, ◌≤◌, Bool, true, List, [], ◌∷◌, length, decimal, arith, length-append}
+use Rattle.std.proofs.Common.{◌≡◌, ℕ, ◌+◌, ◌*◌, ◌^◌, ◌<◌, ◌≤◌, Bool, true, List, [], ◌∷◌, length, decimal, arith, length-append}
 use Rattle.std.specs.List.{flat_map}
 use Rattle.std.proofs.lemmas.Fmt.{length-decimal-le}
 use Rattle.std.proofs.lemmas.List.{length_push}
@@ -9,7 +9,6 @@ use Rattle.network.proofs.Entering.{valid_parts}
 use Rattle.network.specs.Codes.{all}
 use Rattle.network.specs.Nets.{Net, Link, valid, valid_prize, valid_link}
 use Rattle.sheet.specs.Writing.{node_line, edge_line, sheet_of}
-use Rattle.sheet.proofs.Pieces.{edge_long}
 
 node_le : (p : ℕ) → valid_prize p ≡ true → length (node_line p) ≤ 13
 node_le p h = let l = leb-true p 1000000000 h in let n = length-decimal-le 10 p (omega arith) (omega arith) (omega arith) in let m = length_push (decimal p) 10 in omega arith
@@ -23,12 +22,12 @@ record Within (e : Link) : Type 0 where
 within : (n : ℕ) (e : Link) → n ≤ 256 → valid_link n e ≡ true → Within e
 within n e l h = record { first = grind (arith, nat_tests); second = grind (arith, nat_tests); cost = grind (arith, nat_tests); code = grind (arith, nat_tests) }
 
+edge_long : (e : Link) → length (edge_line e) ≡ 6 + length (decimal e.first) + length (decimal e.second) + length (decimal e.cost) + length e.code
+edge_long e = simp length-append (omega arith)
+
 edge_le : (n : ℕ) (e : Link) → n ≤ 256 → valid_link n e ≡ true → length (edge_line e) ≤ 30
 edge_le n e l h =
     let w = within n e l h in
-    let a = length_push (decimal e.first) 9 in
-    let b = length_push (decimal e.second) 9 in
-    let c = length_push (decimal e.cost) 9 in
     let fits : (e.first < 2 ^ 64) × (e.second < 2 ^ 64) × (e.cost < 2 ^ 64) = (omega (arith, w.first), omega (arith, w.second), omega (arith, w.cost)) in
     let p = length-decimal-le 3 e.first (omega arith) (omega (arith, w.first)) fits.0 in
     let q = length-decimal-le 3 e.second (omega arith) (omega (arith, w.second)) fits.1 in

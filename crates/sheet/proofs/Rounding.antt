@@ -1,9 +1,11 @@
 -- Writing and reading back. Assumes nothing.
-use Rattle.std.proofs.Common.{◌≡◌, ℕ, zero, suc, ◌+◌, ◌^◌, ◌<◌, ◌≤◌, true, List, [], ◌∷◌, ◌++◌, map, length, Some, None, Ok, Err, Option, Result, sym, refl, ap, ◌∙◌, subst, append_assoc, append-nil, arith, length-append}
+use Rattle.std.proofs.Common.{◌≡◌, ℕ, zero, suc, ◌+◌, ◌^◌, ◌<◌, ◌≤◌, true, List, [], ◌∷◌, ◌++◌, map, length, Some, None, Ok, Option, Result, sym, refl, ap, ◌∙◌, subst, append_assoc, append-nil, arith, length-append}
 use Rattle.std.specs.Option.{option_map, option_to_list}
 use Rattle.std.specs.List.{flat_map, AllByRecursion}
 use Rattle.std.proofs.lemmas.Bool.{and_parts, leb-true, true≢false}
 use Rattle.std.proofs.lemmas.Bool.Decides.{nat_tests}
+use Rattle.std.proofs.lemmas.Grind.{flat_map-append}
+use Rattle.std.proofs.lemmas.List.Folds.{flat_map-map}
 use Rattle.refusal.specs.declared.Refusal.{Refusal}
 use Rattle.network.specs.Codes.{all}
 use Rattle.network.specs.Nets.{Net, Link, empty_net, valid, valid_prize, valid_link}
@@ -16,8 +18,7 @@ use Rattle.sheet.specs.Writing.{node_line, edge_line, sheet_of}
 use Rattle.sheet.specs.Rounds.{line_entries, entries_within, entries_of, is_edge, nodes_first, ReadAfterWrite, WriteAfterRead}
 use Rattle.sheet.proofs.Entering.{Shorter, line_shorter, parsed_shorter, sheet_more}
 use Rattle.sheet.proofs.Written.{node_parsed, edge_parsed, Writable}
-use Rattle.sheet.proofs.Standard.{entry_line, read_standard, none_some}
-use Rattle.sheet.proofs.Lays.{joined_append}
+use Rattle.sheet.proofs.Standard.{entry_line, read_standard}
 
 -- a network with some entries more
 abbrev entered : Net → List Entry → Net
@@ -46,9 +47,6 @@ entry_keeps_valid : (net : Net) (e : Entry) → valid net ≡ true → entry_ref
 entry_keeps_valid net (node p) v h = node_keeps_valid net p v h
 entry_keeps_valid net (edge e) v h = edge_keeps_valid net e v h
 
-err_ok : {A P : Type 0} (why : Refusal) (x : A) → Err why ≡ Ok x → P
-err_ok why x e = let z : ◌≡◌ {A = ℕ} 0 1 = cc in absurd (omega arith)
-
 -- an accepted sheet is the lines of its entries, and these make its network, which is valid
 record Accepted (f : ℕ) (net : Net) (bs : List ℕ) (after : Net) : Type 0 where
   lines : bs ≡ flat_map entry_line (entries_within f bs)
@@ -68,14 +66,14 @@ accepted_line f line net after c cs l e il ie none a =
 module _ (f line : ℕ) (net after : Net) (c : ℕ) (cs : List ℕ) (again : (net : Net) (bs : List ℕ) → length bs ≤ f → enter_lines f (line + 1) net bs ≡ Ok after → Accepted f net bs after) (fits : length (c ∷ cs) ≤ suc f) where
   by_refusal : (l : Line) (e : Entry) (r : Option Refusal) → first_line (c ∷ cs) ≡ Some l → entry_from l.fields ≡ Some e → entry_refusal net e ≡ r → length l.rest ≤ f → then_enter (unless_line_refused line r (with_entry net e)) (λ n. enter_lines f (line + 1) n l.rest) ≡ Ok after → Accepted (suc f) net (c ∷ cs) after
   by_refusal l e None il ie none short h = accepted_line f line net after c cs l e il ie none (again (with_entry net e) l.rest short h)
-  by_refusal l e (Some why) il ie none short h = err_ok _ _ h
+  by_refusal l e (Some why) il ie none short h = absurd (cc)
 
   by_entry : (l : Line) (o : Option Entry) → first_line (c ∷ cs) ≡ Some l → entry_from l.fields ≡ o → length l.rest ≤ f → then_enter (enter_fields line net o) (λ n. enter_lines f (line + 1) n l.rest) ≡ Ok after → Accepted (suc f) net (c ∷ cs) after
-  by_entry l None il io short h = err_ok _ _ h
+  by_entry l None il io short h = absurd (cc)
   by_entry l (Some e) il io short h = by_refusal l e (entry_refusal net e) il io refl short h
 
   by_line : (o : Option Line) → first_line (c ∷ cs) ≡ o → Shorter (length (c ∷ cs)) o → enter_line line net o (enter_lines f (line + 1)) ≡ Ok after → Accepted (suc f) net (c ∷ cs) after
-  by_line None il s h = err_ok _ _ h
+  by_line None il s h = absurd (cc)
   by_line (Some l) il s h = by_entry l (entry_from l.fields) il refl (omega arith) h
 
 nothing_more : (net after : Net) → ◌≡◌ {A = Result Net Refusal} (Ok net) (Ok after) → after ≡ net
@@ -102,16 +100,8 @@ nodes_first_lines (edge e ∷ es) h = let o = edges_only es h in ap (λ ps. flat
 abbrev all_entries : Net → List Entry
 all_entries net = map node net.prizes ++ map edge net.edges
 
-node_lines : (ps : List ℕ) → flat_map entry_line (map node ps) ≡ flat_map node_line ps
-node_lines [] = refl
-node_lines (p ∷ ps) = ap (λ r. node_line p ++ r) (node_lines ps)
-
-edge_lines : (es : List Link) → flat_map entry_line (map edge es) ≡ flat_map edge_line es
-edge_lines [] = refl
-edge_lines (e ∷ es) = ap (λ r. edge_line e ++ r) (edge_lines es)
-
 written_lines : (net : Net) → sheet_of net ≡ flat_map entry_line (all_entries net)
-written_lines net = sym (joined_append entry_line (map node net.prizes) (map edge net.edges) ∙ λ i. node_lines net.prizes i ++ edge_lines net.edges i)
+written_lines net = sym (flat_map-append entry_line (map node net.prizes) (map edge net.edges) ∙ λ i. flat_map-map entry_line node net.prizes i ++ flat_map-map entry_line edge net.edges i)
 
 all_edges : (es : List Link) → all is_edge (map edge es) ≡ true
 all_edges [] = refl
@@ -158,11 +148,11 @@ all_good net h =
 
 -- the entries of lines that are written are those written
 entries_here : (o : Option Line) (rest : List ℕ) (e : Entry) (next : List ℕ → List Entry) → then_line [] o ≡ Some (parsed e rest) → line_entries o next ≡ e ∷ next rest
-entries_here None rest e next h = none_some _ h
+entries_here None rest e next h = absurd (cc)
 entries_here (Some l) rest e next h = at_entry (entry_from l.fields) h
   where
     at_entry : (o : Option Entry) → option_map (λ x. parsed x l.rest) o ≡ Some (parsed e rest) → option_to_list o ++ next l.rest ≡ e ∷ next rest
-    at_entry None h = none_some _ h
+    at_entry None h = absurd (cc)
     at_entry (Some x) h = let p : parsed x l.rest ≡ parsed e rest = cc in λ i. (p i).entry ∷ next (p i).rest
 
 entries_first : (f : ℕ) (bs rest : List ℕ) (e : Entry) → 0 < length bs → parsed_behind [] bs ≡ Some (parsed e rest) → entries_within (suc f) bs ≡ e ∷ entries_within f rest

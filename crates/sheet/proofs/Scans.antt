@@ -1,23 +1,28 @@
--- The field at the front of some bytes, one byte more at a time. Assumes nothing.
-use Rattle.std.proofs.Common.{◌≡◌, ℕ, ◌+◌, ◌<◌, true, false, cond, List, [], ◌∷◌, ◌++◌, length, get_or, drop, sym, ap, ◌∙◌, append-nil}
-use Rattle.std.specs.List.{between}
-use Rattle.std.proofs.lemmas.List.{drop_more}
+-- The field at the front of some bytes ends at the first tab or line feed. Assumes nothing.
+use Rattle.std.proofs.Common.{◌≡◌, ℕ, suc, ◌+◌, Bool, true, false, cond, not, ltb, List, [], ◌∷◌, length, get_or, take, drop, Some, None, Option, MatchOption, sym, refl, ap, ◌∙◌, arith}
+use Rattle.std.specs.List.{position_or_len}
+use Rattle.std.proofs.lemmas.Bool.{ltb-true, ltb-false}
+use Rattle.std.proofs.lemmas.List.{drop_all, drop_more}
 use Rattle.sheet.specs.Readers.{is_stop, field_of, behind_field}
 
-pub field_stops : (s : List ℕ) (i : ℕ) → i < length s → is_stop (get_or s i 0) ≡ true → (field_of (drop i s) ≡ []) × (behind_field (drop i s) ≡ drop i s)
-field_stops s i l q =
-    let e = drop_more s i 0 l in (
-      ap field_of e ∙ ap (λ b. cond b [] (get_or s i 0 ∷ field_of (drop (i + 1) s))) q,
-      ap behind_field e ∙ ap (λ b. cond b (get_or s i 0 ∷ drop (i + 1) s) (behind_field (drop (i + 1) s))) q ∙ sym e,
-    )
+abbrev field_len : List ℕ → ℕ
+field_len xs = position_or_len is_stop xs
 
-pub field_more : (s : List ℕ) (i : ℕ) → i < length s → is_stop (get_or s i 0) ≡ false → (field_of (drop i s) ≡ get_or s i 0 ∷ field_of (drop (i + 1) s)) × (behind_field (drop i s) ≡ behind_field (drop (i + 1) s))
-field_more s i l q =
-    let e = drop_more s i 0 l in (
-      ap field_of e ∙ ap (λ b. cond b [] (get_or s i 0 ∷ field_of (drop (i + 1) s))) q,
-      ap behind_field e ∙ ap (λ b. cond b (get_or s i 0 ∷ drop (i + 1) s) (behind_field (drop (i + 1) s))) q,
-    )
+abbrev Parts : List ℕ → Type 0
+Parts xs = (field_of xs ≡ take (field_len xs) xs) × (behind_field xs ≡ drop (field_len xs) xs)
 
--- where the scan stops, the field is what it passed
-pub field_found : (s : List ℕ) (from i : ℕ) → field_of (drop from s) ≡ between from i s ++ field_of (drop i s) → behind_field (drop from s) ≡ behind_field (drop i s) → (field_of (drop i s) ≡ []) × (behind_field (drop i s) ≡ drop i s) → (between from i s ≡ field_of (drop from s)) × (drop i s ≡ behind_field (drop from s))
-field_found s from i e f h = (sym (e ∙ ap (λ l. between from i s ++ l) h.0 ∙ append-nil (between from i s)), sym (f ∙ h.1))
+field_parts : (xs : List ℕ) → Parts xs
+field_parts [] = (refl, refl)
+field_parts (x ∷ xs) = by_test (is_stop x) (field_parts xs)
+  where
+    by_test : (stop : Bool) → Parts xs → (cond stop [] (x ∷ field_of xs) ≡ take (cond (not stop) (1 + field_len xs) 0) (x ∷ xs)) × (cond stop (x ∷ xs) (behind_field xs) ≡ drop (cond (not stop) (1 + field_len xs) 0) (x ∷ xs))
+    by_test true again = (refl, refl)
+    by_test false again = let more : suc (field_len xs) ≡ 1 + field_len xs = omega arith in (ap (λ l. x ∷ l) again.0 ∙ ap (λ n. take n (x ∷ xs)) more, again.1 ∙ ap (λ n. drop n (x ∷ xs)) more)
+
+-- what it means that `position` found no stop, or the first
+pub field_found : (xs : List ℕ) (r : Option ℕ) → r ≡ cond (ltb (field_len xs) (length xs)) (Some (field_len xs)) None → MatchOption r (behind_field xs ≡ []) (λ n. (take n xs ≡ field_of xs) × (behind_field xs ≡ get_or xs n 0 ∷ drop (n + 1) xs))
+field_found xs r is = rw is (by_end (ltb (field_len xs) (length xs)) refl (field_parts xs))
+  where
+    by_end : (b : Bool) → ltb (field_len xs) (length xs) ≡ b → Parts xs → MatchOption (cond b (Some (field_len xs)) None) (behind_field xs ≡ []) (λ n. (take n xs ≡ field_of xs) × (behind_field xs ≡ get_or xs n 0 ∷ drop (n + 1) xs))
+    by_end true e parts = (sym parts.0, parts.1 ∙ drop_more xs (field_len xs) 0 (ltb-true _ _ e))
+    by_end false e parts = parts.1 ∙ drop_all (field_len xs) xs (ltb-false _ _ e)

@@ -61,12 +61,9 @@ abbrev pub entry_line : Entry → List ℕ
 entry_line (node p) = node_line p
 entry_line (edge e) = edge_line e
 
-pub none_some : {A P : Type 0} (x : A) → None ≡ Some x → P
-none_some x e = let z : ◌≡◌ {A = ℕ} 0 1 = cc in absurd (omega arith)
-
 chosen : (t : Bool) (x e : Entry) → cond t (Some x) None ≡ Some e → (t ≡ true) × (e ≡ x)
 chosen true x e h = (refl, cc)
-chosen false x e h = none_some e h
+chosen false x e h = absurd (cc)
 
 two_fields : (f g : List ℕ) (e : Entry) → entry_from (f ∷ g ∷ []) ≡ Some e → (is_letter 78 f ≡ true) × (is_number g ≡ true) × (e ≡ node (value_of g))
 two_fields f g e h =
@@ -90,27 +87,27 @@ many_fields f a b c d g more = grind (arith, nat_tests)
 
 -- the fields of an entry, put together, are its line
 fields_standard : (f : List ℕ) (fs : List (List ℕ)) (rest : List ℕ) (e : Entry) → entry_from (f ∷ fs) ≡ Some e → (f ++ behind_tabs fs) ++ 10 ∷ rest ≡ entry_line e ++ rest
-fields_standard f [] rest e h = none_some e h
+fields_standard f [] rest e h = absurd (cc)
 fields_standard f (g ∷ []) rest e h =
     let t = two_fields f g e h in
     (λ i. (is_that 78 f t.0 i ++ behind_tabs (sym (number_standard g t.1) i ∷ [])) ++ 10 ∷ rest)
     ∙ (simp append_assoc)
     ∙ ap (λ x. entry_line x ++ rest) (sym t.2)
-fields_standard f (g ∷ h ∷ []) rest e k = none_some e k
-fields_standard f (g ∷ h ∷ i ∷ []) rest e k = none_some e k
+fields_standard f (g ∷ h ∷ []) rest e k = absurd (cc)
+fields_standard f (g ∷ h ∷ i ∷ []) rest e k = absurd (cc)
 fields_standard f (a ∷ b ∷ c ∷ d ∷ []) rest e k =
     let t = five_fields f a b c d e k in
     (λ i. (is_that 83 f t.0 i ++ behind_tabs (sym (number_standard a t.1) i ∷ sym (number_standard b t.2) i ∷ sym (number_standard c t.3) i ∷ d ∷ [])) ++ 10 ∷ rest)
     ∙ (simp append_assoc)
     ∙ ap (λ x. entry_line x ++ rest) (sym t.4)
-fields_standard f (a ∷ b ∷ c ∷ d ∷ g ∷ more) rest e k = none_some e (sym (many_fields f a b c d g more) ∙ k)
+fields_standard f (a ∷ b ∷ c ∷ d ∷ g ∷ more) rest e k = absurd (cc (many_fields f a b c d g more))
 
 line_standard : (bs : List ℕ) (o : Option Line) (rest : List ℕ) (e : Entry) → SplitBy bs o → then_line [] o ≡ Some (parsed e rest) → bs ≡ entry_line e ++ rest
-line_standard bs None rest e s h = none_some _ h
+line_standard bs None rest e s h = absurd (cc)
 line_standard bs (Some l) rest e s h = s.text ∙ at_entry (entry_from l.fields) refl h
   where
     at_entry : (o : Option Entry) → entry_from l.fields ≡ o → option_map (λ x. parsed x l.rest) o ≡ Some (parsed e rest) → (s.head ++ behind_tabs s.tail) ++ 10 ∷ l.rest ≡ entry_line e ++ rest
-    at_entry None is h = none_some _ h
+    at_entry None is h = absurd (cc)
     at_entry (Some x) is h =
         let p : parsed x l.rest ≡ parsed e rest = cc in
         fields_standard s.head s.tail l.rest x (ap entry_from (sym s.fields) ∙ is) ∙ λ i. entry_line (p i).entry ++ (p i).rest

@@ -3,5 +3,4 @@ pub mod Lines
 pub mod Sheets
 pub mod Readers
 pub mod Writing
-pub mod Laid
 pub mod Rounds

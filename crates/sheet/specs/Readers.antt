@@ -1,14 +1,16 @@
 -- What the reader's parts stand for: the bytes ahead, the field at their front, and a line's entry.
-use Rattle.std.specs.Prelude.{◌≡◌, ℕ, Bool, true, false, cond, ◌&&◌, ◌||◌, List, [], ◌∷◌, ◌++◌, length, drop, Some, None, Option, ◌==◌}
+use Rattle.std.specs.Prelude.{◌≡◌, ℕ, Bool, true, false, cond, ◌&&◌, ◌||◌, List, [], ◌∷◌, ◌++◌, length, drop, Some, None, Ok, Err, Option, Result, ◌==◌, MatchOption}
 use Rattle.std.specs.Option.{option_map}
+use Rattle.refusal.specs.declared.Refusal.{Refusal}
+use Rattle.refusal.specs.declared.Refusal.TheVariants.{LineForm}
 use Rattle.network.specs.Nets.{link}
+use Rattle.network.specs.declared.entry.Entry.{Entry as NetworkEntry}
+use Rattle.network.specs.declared.entry.Entry.TheVariants.{Node, Edge}
 use Rattle.sheet.specs.Numbers.{is_number, value_of}
 use Rattle.sheet.specs.Lines.{Line, Entry, node, edge, first_line, entry_from}
 use Rattle.sheet.specs.declared.reader.Reader.{Reader}
 use Rattle.sheet.specs.declared.field.Field.{Field}
 use Rattle.sheet.specs.declared.field.Field.TheVariants.{Letter, Number, Code}
-use Rattle.sheet.specs.declared.record.Record.{Record}
-use Rattle.sheet.specs.declared.record.Record.TheVariants.{Node, Edge}
 
 -- the bytes not yet read
 abbrev pub ahead : Reader → List ℕ
@@ -43,6 +45,9 @@ closed_field kind end bytes = kind (field_of bytes) && next_is end (behind_field
 abbrev pub any_letter : List ℕ → Bool
 any_letter field = length field == 1
 
+abbrev pub any_bytes : List ℕ → Bool
+any_bytes field = true
+
 -- the field is of this kind, and shows these bytes of the sheet at this place
 abbrev pub LetterAt : Field → List ℕ → ℕ → Type 0
 LetterAt (Letter bytes at) field place = (bytes.now ≡ field) × (at ≡ place) × (length field ≡ 1)
@@ -59,8 +64,12 @@ CodeAt (Letter bytes at) field place = ⊥
 CodeAt (Number bytes at value) field place = ⊥
 CodeAt (Code bytes at) field place = (bytes.now ≡ field) × (at ≡ place)
 
--- what a record enters
-abbrev pub entry_in : Record → Entry
+-- what taking a field answers: one of the kind, shown as said, and the bytes behind its end are ahead then; or none, where no such field comes next
+abbrev pub TakesField : (List ℕ → Bool) → (Field → List ℕ → ℕ → Type 0) → ℕ → Reader → Option Field → Reader → Type 0
+TakesField kind ShownAt end before answer after = MatchOption answer (closed_field kind end (ahead before) ≡ false) (λ f. ShownAt f (field_of (ahead before)) before.at × (behind_field (ahead before) ≡ end ∷ ahead after))
+
+-- what a record enters, as the code has it
+abbrev pub entry_in : NetworkEntry → Entry
 entry_in (Node prize) = node prize
 entry_in (Edge first second cost code) = edge (link first second cost code.now)
 
@@ -79,3 +88,8 @@ then_line read (Some l) = option_map (λ e. parsed e l.rest) (entry_from (read +
 -- the entry of a line of which some fields are read and these bytes are ahead; none where its form is wrong
 abbrev pub parsed_behind : List (List ℕ) → List ℕ → Option Parsed
 parsed_behind read bytes = then_line read (first_line bytes)
+
+-- what taking the record of a line answers: its entry, and the bytes behind the line are ahead then; or the line has another form
+abbrev pub TakesRecord : List (List ℕ) → ℕ → List ℕ → Result NetworkEntry Refusal → List ℕ → Type 0
+TakesRecord read line before (Ok r) after = parsed_behind read before ≡ Some (parsed (entry_in r) after)
+TakesRecord read line before (Err why) after = (why ≡ LineForm line) × (parsed_behind read before ≡ None)

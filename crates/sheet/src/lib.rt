@@ -6,12 +6,11 @@ mod loader;
 mod number;
 mod reader;
 mod reads;
-mod record;
 mod records;
 mod writer;
 
 use field::Field;
 pub use loader::SheetLoader;
 use reader::Reader;
-use record::Record;
+use records::Lines;
 pub use writer::write_sheet;

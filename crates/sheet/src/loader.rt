@@ -6,25 +6,16 @@ ghost use Rattle.sheet.specs.Sheets.{read_sheet, read_answer, read_leaves, enter
 ghost use Rattle.sheet.specs.Readers.{entry_in};
 ghost use Rattle.sheet.specs.Rounds.{WriteAfterRead};
 
-use crate::{Reader, Record};
-use network::Network;
+use crate::Lines;
+use network::{Entry, Network};
 use refusal::Refusal;
 use std::alloc::{AllocError, Global};
 
 // Enters what a line says; a refusal of the network becomes the line's.
-fn enter(network: &mut Network, new: Record, line: usize) -> Result<(), Refusal>
+fn enter(network: &mut Network, new: Entry, line: usize) -> Result<(), Refusal>
     ensures { Entered result (net_of network.new) (enter_record line (net_of network.old) (entry_in new.entry)) }
 {
-    let entered = match new {
-        Record::Node { prize } => network.add_node(prize),
-        Record::Edge {
-            first,
-            second,
-            cost,
-            code,
-        } => { network.add_edge(first as usize, second as usize, cost, code) }
-    };
-    match entered {
+    match network.enter(&new) {
         Ok(_) => Ok(()),
         Err(_) => Err(Refusal::LineEntry { line }),
     }
@@ -34,12 +25,11 @@ fn enter(network: &mut Network, new: Record, line: usize) -> Result<(), Refusal>
 fn enter_lines(sheet: &[u8], network: &mut Network) -> Result<(), Refusal>
     ensures { Entered result (net_of network.new) (enter_from (net_of network.old) sheet.now) }
 {
-    let mut reader = Reader::open(sheet);
-    let mut line = 1;
-    while !reader.is_done() {
-        let record = reader.record(line)?;
-        enter(network, record, line)?;
-        line += 1;
+    let mut lines = Lines::open(sheet);
+    while !lines.is_done() {
+        let record = lines.record()?;
+        enter(network, record, lines.line)?;
+        lines.line += 1;
     }
     Ok(())
 }
