@@ -55,7 +55,7 @@ pub fn with_network<R: Input + Print + AllocGlobal, F: FnOnce(Network) -> anyhow
 
 fn print_edge(rt: &impl Print, network: &Network, number: u16) -> anyhow::Result<()> {
     if let Some(edge) = network.edges().get(number as usize) {
-        let code = std::str::from_utf8(edge.code.text())?;
+        let code = edge.code;
         println!(rt; "s\t{number}\t{code}")?;
     }
     Ok(())
