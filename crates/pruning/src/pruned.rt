@@ -18,20 +18,12 @@ use network::Network;
 use refusal::Refusal;
 use std::array;
 
-// Whether an edge of the tree has just one end among the members.
-fn leaves(tree: &Tree<'_>, members: &[u8], s: usize) -> bool
-    requires { s < edge_count (net_under tree.now) }
-    ensures { result ≡ (edges_in tree.now s && differ (marked members.now (first_end (net_under tree.now) s)) (marked members.now (second_end (net_under tree.now) s))) }
-{
-    tree.has_edge(s) && has_one_end(tree.network, members, s)
-}
-
 // How many edges of the tree have just one end among the members.
 fn count_leaving(tree: &Tree<'_>, members: &[u8]) -> usize
     ensures { result ≡ leaving (net_under tree.now) (edges_in tree.now) (marked members.now) }
 {
     (0..edge_count(tree.network))
-        .filter(|&s| leaves(tree, members, s))
+        .filter(|&s| tree.has_edge(s) && has_one_end(tree.network, members, s))
         .count()
 }
 
@@ -96,14 +88,12 @@ fn pruned_nodes(network: &Network, shapes: &[Shape], chosen: &[u8], tree_nodes: 
 }
 
 // The shapes that count: a family over 256 nodes has at most 511 clusters.
+#[tactic(auto, using(std::proofs::lemmas::List::take_min))]
 fn first_shapes(shapes: &[Shape]) -> &[Shape]
     ensures few { length result.now ≤ 511 }
     ensures value { result.now ≡ heeded shapes.now }
 {
-    if shapes.len() <= 511 {
-        return shapes;
-    }
-    &shapes[0..511]
+    &shapes[..511usize.min(shapes.len())]
 }
 
 // Of the tree with the marked nodes and the chosen edges among them, takes away inactive clusters that just one edge leaves,
