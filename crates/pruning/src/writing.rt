@@ -21,8 +21,6 @@ pub(crate) fn check_room(
     nodes_out: &[u8],
     edges_out: &[u8],
 ) -> Result<(), Refusal>
-    ensures nodes { OnOk result (node_count (net_of network.now) ≤ length nodes_out.now) }
-    ensures edges { OnOk result (edge_count (net_of network.now) ≤ length edges_out.now) }
     ensures ok { OnOk result (too_short (net_of network.now) nodes_out.now edges_out.now ≡ false) }
     ensures short { IfErr result (λ e. e ≡ ListTooShort) }
     ensures err { OnErr result (too_short (net_of network.now) nodes_out.now edges_out.now ≡ true) }
