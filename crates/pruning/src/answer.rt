@@ -38,9 +38,7 @@ impl fmt::Display for Answer {
     ghost output = { λ a. Some (answer_text a) };
 
     fn fmt<W: fmt::Write>(&self, f: &mut fmt::Formatter<W>) -> fmt::Result {
-        let status = self.status;
-        let cost = self.cost;
-        let lost = self.lost;
+        let Answer { status, cost, lost } = *self;
         write!(f, "{status}\t{cost}\t{lost}")
     }
 }

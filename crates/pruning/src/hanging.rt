@@ -12,19 +12,11 @@ use super::reads::{edge_count, has_one_end, is_marked, node_count};
 use arrayvec::ArrayVec;
 use network::Network;
 
-// Whether an edge is marked and just one of its ends is placed.
-fn reaches_out(network: &Network, edges: &[u8], placed: &[u8], s: usize) -> bool
-    requires { s < edge_count (net_of network.now) }
-    ensures { result ≡ (marked edges.now s && differ (marked placed.now (first_end (net_of network.now) s)) (marked placed.now (second_end (net_of network.now) s))) }
-{
-    is_marked(edges, s) && has_one_end(network, placed, s)
-}
-
 // The lowest-numbered marked edge with just one end placed.
 fn next_edge(network: &Network, edges: &[u8], placed: &[u8]) -> Option<usize>
     ensures { result ≡ next_edge (net_of network.now) (marked edges.now) (marked placed.now) }
 {
-    (0..edge_count(network)).find(|&s| reaches_out(network, edges, placed, s))
+    (0..edge_count(network)).find(|&s| is_marked(edges, s) && has_one_end(network, placed, s))
 }
 
 // The branch of an edge: its parent is the end that is placed.

@@ -13,6 +13,7 @@ mod shape;
 mod strong;
 #[cfg(test)]
 mod tests;
+mod tree;
 mod worths;
 mod writing;
 

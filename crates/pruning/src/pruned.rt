@@ -5,62 +5,52 @@ ghost use Rattle.theory.specs.Sums.{differ};
 ghost use Rattle.theory.specs.Nets.{node_count, edge_count, first_end, second_end};
 ghost use Rattle.theory.specs.Prune.{marked};
 ghost use Rattle.pruning.specs.Pruned.{heeded, member, leaving, prunable_at, next_pruned, except, pruned_in, plan_in, prune_answer};
-ghost use Rattle.pruning.specs.Written.{edges_among, too_short, unless_short};
+ghost use Rattle.pruning.specs.Trees.{net_under, edges_in};
+ghost use Rattle.pruning.specs.Written.{too_short, unless_short};
 
 use super::answer::Answer;
 use super::members::members_of;
 use super::reads::{edge_count, has_one_end, is_marked, node_count};
 use super::shape::Shape;
-use super::writing::{check_room, stays, write_plan};
+use super::tree::Tree;
+use super::writing::{check_room, write_plan};
 use network::Network;
 use refusal::Refusal;
 use std::array;
 
-// Whether an edge of the tree has just one end among the members.
-fn leaves(network: &Network, chosen: &[u8], nodes: &[u8], members: &[u8], s: usize) -> bool
-    requires { s < edge_count (net_of network.now) }
-    ensures { result ≡ (edges_among (net_of network.now) (marked chosen.now) (marked nodes.now) s && differ (marked members.now (first_end (net_of network.now) s)) (marked members.now (second_end (net_of network.now) s))) }
-{
-    stays(network, chosen, nodes, s) && has_one_end(network, members, s)
-}
-
 // How many edges of the tree have just one end among the members.
-fn count_leaving(network: &Network, chosen: &[u8], nodes: &[u8], members: &[u8]) -> usize
-    ensures { result ≡ leaving (net_of network.now) (edges_among (net_of network.now) (marked chosen.now) (marked nodes.now)) (marked members.now) }
+fn count_leaving(tree: &Tree<'_>, members: &[u8]) -> usize
+    ensures { result ≡ leaving (net_under tree.now) (edges_in tree.now) (marked members.now) }
 {
-    let mut sum = 0;
-    let count = edge_count(network);
-    for s in 0..count {
-        sum += leaves(network, chosen, nodes, members, s) as usize;
-    }
-    sum
+    (0..edge_count(tree.network))
+        .filter(|&s| tree.has_edge(s) && has_one_end(tree.network, members, s))
+        .count()
 }
 
 // How many edges of the tree have just one end in a cluster.
-fn degree(network: &Network, shapes: &[Shape], chosen: &[u8], nodes: &[u8], c: usize) -> usize
+fn degree(tree: &Tree<'_>, shapes: &[Shape], c: usize) -> usize
     requires listed { c < length shapes.now }
     requires few { length shapes.now ≤ 511 }
-    ensures { result ≡ leaving (net_of network.now) (edges_among (net_of network.now) (marked chosen.now) (marked nodes.now)) (member shapes.now c) }
+    ensures { result ≡ leaving (net_under tree.now) (edges_in tree.now) (member shapes.now c) }
 {
-    let members = members_of(shapes, c);
-    count_leaving(network, chosen, nodes, &members)
+    count_leaving(tree, &members_of(shapes, c))
 }
 
 // Whether a cluster is inactive and just one edge of the tree leaves it.
-fn is_prunable(network: &Network, shapes: &[Shape], chosen: &[u8], nodes: &[u8], c: usize) -> bool
+fn is_prunable(tree: &Tree<'_>, shapes: &[Shape], c: usize) -> bool
     requires listed { c < length shapes.now }
     requires few { length shapes.now ≤ 511 }
-    ensures { result ≡ prunable_at (net_of network.now) shapes.now (edges_among (net_of network.now) (marked chosen.now) (marked nodes.now)) c }
+    ensures { result ≡ prunable_at (net_under tree.now) shapes.now (edges_in tree.now) c }
 {
-    shapes[c].inactive && degree(network, shapes, chosen, nodes, c) == 1
+    shapes[c].inactive && degree(tree, shapes, c) == 1
 }
 
 // The lowest-numbered cluster that can be pruned.
-fn next_cluster(network: &Network, shapes: &[Shape], chosen: &[u8], nodes: &[u8]) -> Option<usize>
+fn next_cluster(tree: &Tree<'_>, shapes: &[Shape]) -> Option<usize>
     requires { length shapes.now ≤ 511 }
-    ensures { result ≡ next_pruned (net_of network.now) shapes.now (marked chosen.now) (marked nodes.now) }
+    ensures { result ≡ next_pruned (net_under tree.now) shapes.now (marked tree.now.edges.now) (marked tree.now.nodes.now) }
 {
-    (0..shapes.len()).find(|&c| is_prunable(network, shapes, chosen, nodes, c))
+    (0..shapes.len()).find(|&c| is_prunable(tree, shapes, c))
 }
 
 // Whether a place is among the nodes and not among the members.
@@ -84,7 +74,12 @@ fn pruned_nodes(network: &Network, shapes: &[Shape], chosen: &[u8], tree_nodes: 
 {
     let mut nodes = array::from_fn(|v| is_marked(tree_nodes, v) as u8);
     for _ in 0..node_count(network) {
-        let Some(c) = next_cluster(network, shapes, chosen, &nodes) else {
+        let tree = Tree {
+            network,
+            edges: chosen,
+            nodes: &nodes,
+        };
+        let Some(c) = next_cluster(&tree, shapes) else {
             break;
         };
         nodes = take_away(&nodes, &members_of(shapes, c));
@@ -93,14 +88,12 @@ fn pruned_nodes(network: &Network, shapes: &[Shape], chosen: &[u8], tree_nodes: 
 }
 
 // The shapes that count: a family over 256 nodes has at most 511 clusters.
+#[tactic(auto, using(std::proofs::lemmas::List::take_min))]
 fn first_shapes(shapes: &[Shape]) -> &[Shape]
     ensures few { length result.now ≤ 511 }
     ensures value { result.now ≡ heeded shapes.now }
 {
-    if shapes.len() <= 511 {
-        return shapes;
-    }
-    &shapes[0..511]
+    &shapes[..511usize.min(shapes.len())]
 }
 
 // Of the tree with the marked nodes and the chosen edges among them, takes away inactive clusters that just one edge leaves,
@@ -120,5 +113,10 @@ pub fn prune_tree(
 {
     check_room(network, nodes_out, edges_out)?;
     let nodes = pruned_nodes(network, first_shapes(shapes), chosen, tree_nodes);
-    Ok(write_plan(network, &nodes, chosen, nodes_out, edges_out))
+    let pruned = Tree {
+        network,
+        edges: chosen,
+        nodes: &nodes,
+    };
+    Ok(write_plan(&pruned, nodes_out, edges_out))
 }

@@ -8,6 +8,7 @@ ghost use Rattle.pruning.specs.Written.{too_short, unless_short};
 
 use super::answer::Answer;
 use super::keeping::strong_nodes;
+use super::tree::Tree;
 use super::writing::{check_room, write_plan};
 use network::Network;
 use refusal::Refusal;
@@ -27,5 +28,10 @@ pub fn strong_prune_tree(
 {
     check_room(network, nodes_out, edges_out)?;
     let nodes = strong_nodes(network, tree_nodes, tree_edges);
-    Ok(write_plan(network, &nodes, tree_edges, nodes_out, edges_out))
+    let kept = Tree {
+        network,
+        edges: tree_edges,
+        nodes: &nodes,
+    };
+    Ok(write_plan(&kept, nodes_out, edges_out))
 }

@@ -3,13 +3,15 @@ ghost use Rattle.std.specs.Prelude.{◌≡◌, ℕ, Bool, ◌<◌, ◌≤◌, tr
 ghost use Rattle.refusal.specs.declared.Refusal.TheVariants.{ListTooShort};
 ghost use Rattle.network.specs.Networks.{net_of};
 ghost use Rattle.theory.specs.Nets.{node_count, edge_count};
-ghost use Rattle.theory.specs.Prune.{marks, marked};
+ghost use Rattle.theory.specs.Prune.{marks};
 ghost use Rattle.pruning.specs.Answers.{answer_of};
-ghost use Rattle.pruning.specs.Written.{edges_among, plan_among, too_short};
+ghost use Rattle.pruning.specs.Trees.{net_under, plan_under};
+ghost use Rattle.pruning.specs.Written.{too_short};
 
 use super::answer::Answer;
 use super::answers::plan_answer;
 use super::reads::{edge_count, is_marked, node_count};
+use super::tree::Tree;
 use network::Network;
 use refusal::Refusal;
 
@@ -19,8 +21,6 @@ pub(crate) fn check_room(
     nodes_out: &[u8],
     edges_out: &[u8],
 ) -> Result<(), Refusal>
-    ensures nodes { OnOk result (node_count (net_of network.now) ≤ length nodes_out.now) }
-    ensures edges { OnOk result (edge_count (net_of network.now) ≤ length edges_out.now) }
     ensures ok { OnOk result (too_short (net_of network.now) nodes_out.now edges_out.now ≡ false) }
     ensures short { IfErr result (λ e. e ≡ ListTooShort) }
     ensures err { OnErr result (too_short (net_of network.now) nodes_out.now edges_out.now ≡ true) }
@@ -43,37 +43,17 @@ fn write_marks<F: Fn(usize) -> bool>(out: &mut [u8], test: F)
     }
 }
 
-// Whether an edge is marked and both its ends are among the nodes.
-#[tactic(auto, using(crate::proofs::EdgeReads::edge_reads))]
-pub(crate) fn stays(network: &Network, edges: &[u8], nodes: &[u8], s: usize) -> bool
-    requires { s < edge_count (net_of network.now) }
-    ensures { result ≡ edges_among (net_of network.now) (marked edges.now) (marked nodes.now) s }
+// Writes a tree as a plan to the front of two lists that are long enough.
+pub(crate) fn write_plan(tree: &Tree<'_>, nodes_out: &mut [u8], edges_out: &mut [u8]) -> Answer
+    requires nodes { node_count (net_under tree.now) ≤ length nodes_out.old }
+    requires edges { edge_count (net_under tree.now) ≤ length edges_out.old }
+    ensures answer { result ≡ answer_of (plan_under tree.now) }
+    ensures nodes { nodes_out.new ≡ (plan_under tree.now).node_marks ++ drop (node_count (net_under tree.now)) nodes_out.old }
+    ensures edges { edges_out.new ≡ (plan_under tree.now).edge_marks ++ drop (edge_count (net_under tree.now)) edges_out.old }
 {
-    let edge = network.edges()[s];
-    is_marked(edges, s) && is_marked(nodes, edge.first) && is_marked(nodes, edge.second)
-}
-
-// Writes the plan of the marked nodes, with the marked edges among them, to the front of two lists that are long enough.
-pub(crate) fn write_plan(
-    network: &Network,
-    nodes: &[u8],
-    edges: &[u8],
-    nodes_out: &mut [u8],
-    edges_out: &mut [u8],
-) -> Answer
-    requires nodes { node_count (net_of network.now) ≤ length nodes_out.old }
-    requires edges { edge_count (net_of network.now) ≤ length edges_out.old }
-    ensures answer { result ≡ answer_of (plan_among (net_of network.now) (marked edges.now) (marked nodes.now)) }
-    ensures nodes { nodes_out.new ≡ (plan_among (net_of network.now) (marked edges.now) (marked nodes.now)).node_marks ++ drop (node_count (net_of network.now)) nodes_out.old }
-    ensures edges { edges_out.new ≡ (plan_among (net_of network.now) (marked edges.now) (marked nodes.now)).edge_marks ++ drop (edge_count (net_of network.now)) edges_out.old }
-{
-    write_marks(
-        &mut nodes_out[..node_count(network)],
-        |v| is_marked(nodes, v),
-    );
-    write_marks(
-        &mut edges_out[..edge_count(network)],
-        |s| stays(network, edges, nodes, s),
-    );
-    plan_answer(network, nodes_out, edges_out)
+    let nodes = &mut nodes_out[..node_count(tree.network)];
+    write_marks(nodes, |v| is_marked(tree.nodes, v));
+    let edges = &mut edges_out[..edge_count(tree.network)];
+    write_marks(edges, |s| tree.has_edge(s));
+    plan_answer(tree.network, nodes_out, edges_out)
 }

@@ -1,23 +1,15 @@
-use Rattle.std.proofs.Common.{◌&&◌, ap, ◌∙◌, arith}
-use mir.Val.{bool_byte}
-use Rattle.network.specs.Networks.{net_of}
-use Rattle.theory.specs.Sums.{one, differ}
+use Rattle.std.proofs.Common.{ℕ, ◌&&◌, rules, tests, ap, ◌∙◌}
+use Rattle.theory.specs.Sums.{sum_to, one, differ}
 use Rattle.theory.specs.Nets.{first_end, second_end}
 use Rattle.theory.specs.Prune.{marked}
-use Rattle.theory.proofs.Bools.{one_most}
-use Rattle.pruning.specs.Written.{edges_among}
-use Rattle.pruning.proofs.Marking.{byte_one}
-use Rattle.pruning.proofs.Totals.{sum_more}
+use Rattle.pruning.specs.Trees.{net_under, edges_in}
+use Rattle.pruning.proofs.Ranges.{count_below}
 use Rattle.pruning.proofs.pruned.count_leaving.Goals as goal
 
-pub loop-s-preserved : goal.loop-s-preserved
-loop-s-preserved c =
-    let net = net_of c.args.network.now in
-    let N = marked c.args.nodes.now in
+pub returns : goal.returns
+returns c =
+    let tree = c.args.tree.now in
     let M = marked c.args.members.now in
-    let x = byte_one c.leaves.result in
-    let most = one_most c.leaves.result in
-    let inv = c.loop-s.invariant.1 in (
-      sum_more (λ s. one (edges_among net (marked c.args.chosen.now) N s && differ (M (first_end net s)) (M (second_end net s)))) c.loop-s.s c.loop-s.sum (bool_byte c.leaves.result) c.loop-s.invariant.0 (x ∙ ap one c.leaves.ensures),
-      omega arith,
-    )
+    let out = λ (s : ℕ). edges_in tree s && differ (M (first_end (net_under tree) s)) (M (second_end (net_under tree) s)) in
+    count_below out c.edge_count.result c.filter.result c.count.result c.filter.ensures.source c.filter.ensures.closure (λ x b q k. search (rules, tests)) c.count.ensures.ran
+    ∙ ap (λ n. sum_to n (λ s. one (out s))) c.edge_count.ensures
