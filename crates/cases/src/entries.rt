@@ -43,6 +43,7 @@ fn answers_the_lowest_refusal(rt: HostRuntime) -> Result<(), Fail> {
 #[test]
 fn stops_at_full_tables(rt: HostRuntime) -> Result<(), Fail> {
     let mut network = Network::open(rt.alloc())?;
+    // The number is what the entry is to answer.
     for i in 0..256usize {
         assert_eq!(rt; network.add_node(1), Ok(i));
     }

@@ -63,6 +63,7 @@ fn print_edge(rt: &impl Print, network: &Network, number: u16) -> anyhow::Result
 
 // The marked edges, in work-list order.
 pub fn print_edges(rt: &impl Print, network: &Network, marks: &[u8]) -> anyhow::Result<()> {
+    // A list with a count beside it, as `work_list` answers: it wants no memory.
     let mut numbers = [0u16; MOST_EDGES];
     if let Ok(count) = work_list(network, marks, &mut numbers) {
         for number in numbers.iter().take(count) {

@@ -3,7 +3,7 @@ ghost use Rattle.std.specs.Prelude.{◌≡◌, ◌≤◌, length};
 
 use crate::Cluster;
 
-// The first `formed` records are clusters; those behind them are vacant.
+// The first `formed` records are clusters; those behind them are vacant. A fixed table, cleared at the start: no list grows.
 #[derive(Drop)]
 pub(crate) struct Family {
     pub(crate) clusters: [Cluster; 511],

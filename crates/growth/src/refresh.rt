@@ -61,6 +61,7 @@ pub(crate) fn fill<Q: EventQueue>(queue: &mut Q, grown: &Snapshot)
     ensures { Q.EventQueue.table queue.new ≡ dues_shown (net_of grown.now.network.now) grown.now.tables.now }
 {
     queue.clear();
+    // By number: there is no list of what stands under the numbers.
     for number in 0..1535usize {
         write_due(queue, grown, number);
     }
@@ -84,6 +85,7 @@ fn refresh_edges<Q: EventQueue>(queue: &mut Q, grown: &Snapshot, c: usize)
     ensures here { (s : ℕ) → s < edge_count (net_of grown.now.network.now) → is_at (net_of grown.now.network.now) grown.now.tables.now c s ≡ true → Right (dues_shown (net_of grown.now.network.now) grown.now.tables.now) (Q.EventQueue.table queue.new) (511 + s) }
 {
     let count = grown.network.edges().len();
+    // By number: an edge's entry is found by it, and nothing is indexed here.
     for s in 0..count {
         refresh_edge(queue, grown, c, s);
     }

@@ -15,6 +15,7 @@ use pruning::Shape;
 use std::array;
 
 impl Cluster {
+    // A method and no `From`: only this file asks for it, of a record that is lent.
     fn shape(&self) -> Shape
         ensures { result ≡ shape_of self.now }
     {

@@ -116,6 +116,7 @@ fn add_across(rt: &impl Abort, network: &mut Network, s: usize, cost: u64) -> Re
 fn spread(rt: &(impl Abort + AllocGlobal)) -> Result<Network, Fail> {
     let mut network = Network::open(rt.alloc())?;
     let mut drawn = 1;
+    // By number, here and below: nodes and edges are made from their numbers.
     for v in 0..256usize {
         drawn = draw(drawn);
         let share = if v % 8 == 0 { 1 } else { 16 };

@@ -69,8 +69,8 @@ fn prunes_again_from_the_lowest_cluster(rt: HostRuntime) -> Result<(), Fail> {
 
 // From the third on, the parts of each cluster are the two before it.
 fn overlap(shapes: &mut [Shape]) {
-    for c in 2..shapes.len() {
-        shapes[c] = union(c - 2, c - 1, true);
+    for (c, shape) in shapes.iter_mut().enumerate().skip(2) {
+        *shape = union(c - 2, c - 1, true);
     }
 }
 

@@ -25,6 +25,7 @@ pub(crate) struct Row {
     pub(crate) strong: Kept,
 }
 
+// `cases` has the same: crates of tests share no code.
 pub(crate) fn load(rt: &(impl Abort + AllocGlobal), sheet: &[u8]) -> Result<Network, Fail> {
     let mut network = Network::open(rt.alloc())?;
     let mut loader = SheetLoader::open(rt.alloc())?;

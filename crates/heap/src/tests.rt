@@ -7,7 +7,7 @@ use refusal::Refusal;
 use std::test::Fail;
 
 // A number, in its own order.
-#[derive(Clone, Copy, PartialEq, Eq, Debug)]
+#[derive(Clone, Copy, PartialEq, Eq, PartialOrd, Ord, Debug)]
 struct Rank(u8);
 
 impl Key for Rank {
@@ -16,7 +16,7 @@ impl Key for Rank {
     ghost ordered = { Prim.search rules };
 
     fn at_most(self, other: Rank) -> bool {
-        self.0 <= other.0
+        self <= other
     }
 }
 

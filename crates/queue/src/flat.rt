@@ -59,6 +59,7 @@ pub(crate) fn look_through(times: &[Option<u64>]) -> Option<(u64, usize)>
 }
 
 // The earlier of what was found so far and the entry at `i`; an equal time keeps what was found.
+// By hand: the least of two optional pairs takes a chain of adapters that is no plainer.
 fn sooner(found: Option<(u64, usize)>, i: usize, entry: Option<u64>) -> Option<(u64, usize)>
     ensures { result ≡ sooner found i entry }
 {

@@ -50,7 +50,7 @@ impl Refusal {
         }
     }
 
-    // The sheet's line, counted from 1, or 0 where no line applies.
+    // The sheet's line, counted from 1, or 0 where no line applies: the report prints that 0.
     pub fn line(self) -> usize
         ensures { result ≡ refusal_line self }
     {

@@ -30,6 +30,7 @@ fn with_marks(
     })
 }
 
+// This and the next differ in the pruning alone: with a closure in its place the proof of the call did not close.
 fn kept_plan<Q: EventQueue>(growth: &Growth<Q>) -> Result<Kept, Refusal>
     requires { ended (state_of growth.now) ≡ true }
     ensures { result ≡ kept_answer (network_of growth.now) (plan (network_of growth.now) (state_of growth.now)) }

@@ -15,6 +15,7 @@ use std::alloc::{AllocError, Global};
 fn enter(network: &mut Network, new: Entry, line: usize) -> Result<(), Refusal>
     ensures { Entered result (net_of network.new) (enter_record line (net_of network.old) (entry_in new.entry)) }
 {
+    // By cases: with `map_err` and `?` the proof of the second did not close.
     match network.enter(&new) {
         Ok(_) => Ok(()),
         Err(_) => Err(Refusal::LineEntry { line }),
@@ -26,6 +27,7 @@ fn enter_lines(sheet: &[u8], network: &mut Network) -> Result<(), Refusal>
     ensures { Entered result (net_of network.new) (enter_from (net_of network.old) sheet.now) }
 {
     let mut lines = Lines::open(sheet);
+    // A record says how far the next line is: nothing is counted but the lines, for their refusals.
     while !lines.is_done() {
         let record = lines.record()?;
         enter(network, record, lines.line)?;

@@ -1,4 +1,4 @@
-// The reader: a sheet and how far it is read.
+// The reader: a sheet and how far it is read, since a field is handed out with its place.
 ghost use Rattle.std.specs.Prelude.{◌≤◌, length};
 
 #[derive(Drop)]
