@@ -1,6 +1,6 @@
 use Rattle.std.proofs.Common.{◌≡◌, length, get_or, rules}
 use Rattle.sheet.specs.Readers.{ahead, field_of}
-use Rattle.sheet.proofs.Forms.{letter_refused, other_refused, behind_letter}
+use Rattle.sheet.proofs.Forms.{behind_letter}
 use Rattle.sheet.proofs.records.Lines.record.Goals as goal
 
 pub returns-in-N-clause-taken : goal.returns-in-N-clause-taken
