@@ -1,7 +1,7 @@
 -- A growing network before and after a step.
 use Rattle.std.proofs.Common.{◌≡◌, ℕ, ◌+◌, ◌≤◌, Bool, true, false, cond, List, Some, None, Option, sym, refl, ap, ◌∙◌, subst, add-one, arith}
 use Rattle.theory.specs.Due.{earliest, due_times}
-use Rattle.theory.specs.Growth.{State, active_count, ended, unless_ended, advance, step, grow}
+use Rattle.theory.specs.Growth.{State, active_count, ended, step, grow}
 use Rattle.theory.proofs.Laws.{formed_by_number}
 use Rattle.growth.specs.Events.{growing}
 use Rattle.growth.specs.Shown.{ShowsAll}
@@ -12,14 +12,6 @@ use Rattle.growth.specs.declared.tables.Tables.{Tables}
 use Rattle.growth.proofs.Counting.{growing_count}
 use Rattle.growth.proofs.Advancing as Advancing
 use Rattle.growth.proofs.Advancing.{one_more, up_to_date}
-
--- nothing is due once growth has ended, and then a step changes nothing
-pub idle_state : (net : Net) (st : State) → None ≡ next_due net st → st ≡ step net st
-idle_state net st none = by (ended st) refl
-  where
-    by : (b : Bool) → ended st ≡ b → st ≡ step net st
-    by true e = sym (ap (λ b. unless_ended b net st) e)
-    by false e = sym (ap (λ b. unless_ended b net st) e ∙ ap (advance net st) (sym (none ∙ ap (λ b. cond b None (earliest (due_times net st.time st.slots))) e)))
 
 module _ (net : Net) (v : valid net ≡ true) (t : Tables) (table : List (Option ℕ)) (sound : Sound net t table) where
   abbrev st : State

@@ -70,10 +70,7 @@ impl Cluster {
     pub(crate) fn is_growing(&self) -> bool
         ensures { result ≡ is_growing self.now }
     {
-        match self.phase {
-            Phase::Active => self.maximal,
-            Phase::Inactive => false,
-        }
+        self.phase == Phase::Active && self.maximal
     }
 
     // Its moat grows where it is active and maximal.

@@ -3,7 +3,7 @@ ghost use Rattle.std.specs.Prelude.{◌≡◌, ◌≤◌, length};
 
 use crate::Cluster;
 
-// The first `formed` records are clusters; those behind them are vacant. A fixed table, cleared at the start: no list grows.
+// The first `formed` records are clusters; those behind them are vacant. One table, cleared at the start, is a rule of the project.
 #[derive(Drop)]
 pub(crate) struct Family {
     pub(crate) clusters: [Cluster; 511],

@@ -85,7 +85,7 @@ fn refresh_edges<Q: EventQueue>(queue: &mut Q, grown: &Snapshot, c: usize)
     ensures here { (s : ℕ) → s < edge_count (net_of grown.now.network.now) → is_at (net_of grown.now.network.now) grown.now.tables.now c s ≡ true → Right (dues_shown (net_of grown.now.network.now) grown.now.tables.now) (Q.EventQueue.table queue.new) (511 + s) }
 {
     let count = grown.network.edges().len();
-    // By number: an edge's entry is found by it, and nothing is indexed here.
+    // By number: under it the queue has the edge's entry.
     for s in 0..count {
         refresh_edge(queue, grown, c, s);
     }

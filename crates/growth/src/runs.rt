@@ -13,10 +13,9 @@ use network::{Entry, Network};
 use queue::EventQueue;
 
 // Takes every entry of a network back and enters those of the list in turn; a refused one changes nothing.
-fn entered_anew(network: Network, entries: &[Entry]) -> Network
+fn entered_anew(mut network: Network, entries: &[Entry]) -> Network
     ensures { net_of result ≡ entered (map given entries.now) empty_net }
 {
-    let mut network = network;
     network.clear();
     network.enter_all(entries);
     network

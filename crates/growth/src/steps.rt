@@ -1,9 +1,9 @@
 // Starting growth, and one step of it.
-ghost use Rattle.std.specs.Prelude.{◌≡◌};
+ghost use Rattle.std.specs.Prelude.{◌≡◌, Some};
 ghost use Rattle.network.specs.Networks.{net_of};
 ghost use Rattle.theory.specs.Growth.{start, step};
 ghost use Rattle.theory.specs.Laws.{Laws};
-ghost use Rattle.growth.specs.Grown.{network_of, steps_of, state_of, next_due, taken_answer, step_answer};
+ghost use Rattle.growth.specs.Grown.{network_of, steps_of, state_of, next_due, step_answer};
 
 use crate::refresh::{fill, refresh};
 use crate::{Event, Growth, Snapshot, Tables};
@@ -11,23 +11,14 @@ use network::Network;
 use queue::EventQueue;
 use refusal::Refusal;
 
-// What a step answers that takes this.
-fn taken(due: Option<(u64, usize)>) -> Result<Event, Refusal>
-    ensures { result ≡ taken_answer due }
-{
-    let (_, number) = due.ok_or(Refusal::GrowthEnded)?;
-    Ok(Event::from(number))
-}
-
 impl<Q: EventQueue> Growth<Q> {
     // Starts growth: uses up the network and the queue, whatever table that brings. Each node is a cluster of its own, active, with moat 0.
-    pub fn start(network: Network, queue: Q) -> Growth<Q>
+    pub fn start(network: Network, mut queue: Q) -> Growth<Q>
         ensures network { network_of result ≡ net_of network }
         ensures state { state_of result ≡ start (net_of network) }
         ensures steps { steps_of result ≡ 0 }
         ensures laws { Laws (network_of result) (steps_of result) }
     {
-        let mut queue = queue;
         let tables = Tables::open(&network);
         let grown = Snapshot {
             network: &network,
@@ -51,16 +42,13 @@ impl<Q: EventQueue> Growth<Q> {
         self.queue.first()
     }
 
-    // What is due happens, and the queue follows; nothing happens where nothing is due.
-    fn advance(&mut self, due: Option<(u64, usize)>)
-        requires due { due ≡ next_due (network_of self.old) (state_of self.old) }
+    // What is due first happens, and the queue follows.
+    fn advance(&mut self, time: u64, number: usize)
+        requires { Some (time, number) ≡ next_due (network_of self.old) (state_of self.old) }
         ensures network { network_of self.new ≡ network_of self.old }
         ensures state { state_of self.new ≡ step (network_of self.old) (state_of self.old) }
         ensures laws { Laws (network_of self.new) (steps_of self.new) }
     {
-        let Some((time, number)) = due else {
-            return;
-        };
         self.tables.happen(&self.network, time, number);
         let grown = Snapshot {
             network: &self.network,
@@ -76,8 +64,8 @@ impl<Q: EventQueue> Growth<Q> {
         ensures state { state_of self.new ≡ step (network_of self.old) (state_of self.old) }
         ensures laws { Laws (network_of self.new) (steps_of self.new) }
     {
-        let due = self.next_due();
-        self.advance(due);
-        taken(due)
+        let (time, number) = self.next_due().ok_or(Refusal::GrowthEnded)?;
+        self.advance(time, number);
+        Ok(Event::from(number))
     }
 }

@@ -1,5 +1,5 @@
 // The grown tree as marks, and the clusters as shapes: what pruning asks for.
-ghost use Rattle.std.specs.Prelude.{◌≡◌, ◌<◌, map, length};
+ghost use Rattle.std.specs.Prelude.{◌≡◌, ◌<◌, map};
 ghost use Rattle.network.specs.Networks.{net_of};
 ghost use Rattle.theory.specs.Nets.{edge_count};
 ghost use Rattle.theory.specs.Growth.{grow};
@@ -50,16 +50,14 @@ impl Snapshot<'_> {
 
     // Marks the nodes of the grown tree.
     pub(crate) fn grown_nodes(&self) -> [u8; 256]
-        ensures long { length result ≡ 256 }
-        ensures value { marked result ≡ grown_node (grow (net_of self.now.network.now) self.now.tables.now.steps).slots }
+        ensures { marked result ≡ grown_node (grow (net_of self.now.network.now) self.now.tables.now.steps).slots }
     {
         array::from_fn(|v| self.is_grown(v) as u8)
     }
 
     // Whether an edge is chosen and both its ends are among the nodes.
-    fn is_among(&self, nodes: &[u8], s: usize) -> bool
-        requires known { s < edge_count (net_of self.now.network.now) }
-        requires long { length nodes.now ≡ 256 }
+    fn is_among(&self, nodes: &[u8; 256], s: usize) -> bool
+        requires { s < edge_count (net_of self.now.network.now) }
         ensures { result ≡ edges_among (net_of self.now.network.now) (marked self.now.tables.now.chosen.marks) (marked nodes.now) s }
     {
         let edge = edge_at(self.network, s);
@@ -67,18 +65,16 @@ impl Snapshot<'_> {
     }
 
     // Whether an edge is in the grown tree, whose nodes are marked.
-    fn is_tree_edge(&self, nodes: &[u8], s: usize) -> bool
-        requires long { length nodes.now ≡ 256 }
-        requires grown { marked nodes.now ≡ grown_node (grow (net_of self.now.network.now) self.now.tables.now.steps).slots }
+    fn is_tree_edge(&self, nodes: &[u8; 256], s: usize) -> bool
+        requires { marked nodes.now ≡ grown_node (grow (net_of self.now.network.now) self.now.tables.now.steps).slots }
         ensures { result ≡ grown_edge (net_of self.now.network.now) (grow (net_of self.now.network.now) self.now.tables.now.steps).slots s }
     {
         s < self.network.edges().len() && self.is_among(nodes, s)
     }
 
     // Marks the edges of the grown tree, whose nodes are marked.
-    pub(crate) fn grown_edges(&self, nodes: &[u8]) -> [u8; 1024]
-        requires long { length nodes.now ≡ 256 }
-        requires grown { marked nodes.now ≡ grown_node (grow (net_of self.now.network.now) self.now.tables.now.steps).slots }
+    pub(crate) fn grown_edges(&self, nodes: &[u8; 256]) -> [u8; 1024]
+        requires { marked nodes.now ≡ grown_node (grow (net_of self.now.network.now) self.now.tables.now.steps).slots }
         ensures { marked result ≡ grown_edge (net_of self.now.network.now) (grow (net_of self.now.network.now) self.now.tables.now.steps).slots }
     {
         array::from_fn(|s| self.is_tree_edge(nodes, s) as u8)

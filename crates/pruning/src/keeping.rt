@@ -40,7 +40,7 @@ fn best_node(nodes: &[u8], n: usize, table: &[u64], root: usize) -> usize
     ensures { result ≡ greatest n (marked nodes.now) (by_node table.now) root }
 {
     let mut best = root;
-    // Nothing is indexed here, and `max_by_key` takes the last of equals.
+    // Not `max_by_key`, which takes the last of equals; a fold would have to carry that `best` is a node.
     for v in 0..n {
         best = better(nodes, table, best, v);
     }

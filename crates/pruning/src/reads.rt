@@ -7,7 +7,7 @@ ghost use Rattle.theory.specs.Prune.{marked};
 
 use network::Network;
 
-// Only the byte 1 counts; a place beyond the list is not marked. Marks are bytes, since the callers' lists are.
+// Only the byte 1 counts; a place beyond the list is not marked. Marks are bytes everywhere: the callers' lists are, and this reads both.
 pub(crate) fn is_marked(marks: &[u8], i: usize) -> bool
     ensures { result ≡ marked marks.now i }
 {

@@ -1,7 +1,7 @@
 // A cluster of a family that is given by number.
 
 // The numbers of a cluster's two parts, none for a node alone, and whether the cluster is inactive.
-#[derive(Clone, Copy)]
+#[derive(Clone, Copy, PartialEq, Eq, Debug)]
 pub struct Shape {
     pub parts: Option<(usize, usize)>,
     pub inactive: bool,

@@ -2,7 +2,7 @@
 use pruning::Answer;
 
 // A plan: its answers, and the mark 1 of each node and edge that it keeps, by number.
-#[derive(Clone, Copy)]
+#[derive(Clone, Copy, PartialEq, Eq, Debug)]
 pub struct Kept {
     pub answer: Answer,
     pub nodes: [u8; 256],
@@ -10,7 +10,7 @@ pub struct Kept {
 }
 
 // The accepted steps, the lower bound in half units, and both plans.
-#[derive(Clone, Copy)]
+#[derive(Clone, Copy, PartialEq, Eq, Debug)]
 pub struct Report {
     pub steps: usize,
     pub lower_bound: u64,

@@ -15,7 +15,7 @@ use std::alloc::{AllocError, Global};
 fn enter(network: &mut Network, new: Entry, line: usize) -> Result<(), Refusal>
     ensures { Entered result (net_of network.new) (enter_record line (net_of network.old) (entry_in new.entry)) }
 {
-    // By cases: with `map_err` and `?` the proof of the second did not close.
+    // By cases: with `map_err` and `?` the proof of the refusal did not close.
     match network.enter(&new) {
         Ok(_) => Ok(()),
         Err(_) => Err(Refusal::LineEntry { line }),

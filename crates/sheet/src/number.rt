@@ -11,6 +11,7 @@ pub(crate) fn number_of(bytes: &[u8]) -> Option<u64>
         return None;
     }
     let mut value = 0;
+    // Not `parse`: it wants the bytes as a text first, and answers two more failures that never come.
     for digit in bytes {
         if !digit.is_ascii_digit() {
             return None;

@@ -21,7 +21,7 @@ fn put(text: &mut Text, bytes: &[u8])
     ensures { text.new.items ≡ text.old.items ++ bytes.now }
 {
     // It fits: the contract asks for the room.
-    let _fits = text.try_extend_from_slice(bytes);
+    let _ = text.try_extend_from_slice(bytes);
 }
 
 // The number, and behind it the byte that closes its field.

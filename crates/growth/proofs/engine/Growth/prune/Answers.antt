@@ -34,7 +34,7 @@ returns g c =
     let nodes = c.args.nodes_out.now in
     let edges = c.args.edges_out.now in
     let none = sym (not_refused _ c.in_ok-check_plan.ensures) ∙ ap (λ x. no_plan (network_of x) (state_of x)) (sym c.self.view_is) in
-    let same = plan_shown net s.network.valid s.tables.steps s.tables c.self.invariant.shown c.grown_nodes-nodes.result c.grown_nodes-nodes.ensures.value c.shapes-shapes.result c.shapes-shapes.ensures in
+    let same = plan_shown net s.network.valid s.tables.steps s.tables c.self.invariant.shown c.grown_nodes-nodes.result c.grown_nodes-nodes.ensures c.shapes-shapes.result c.shapes-shapes.ensures in
     rw (← c.self.view_is) (record {
       answer = c.prune_tree.ensures.answer ∙ planned_answer net st (plan net st) _ same nodes edges none;
       nodes = c.prune_tree.ensures.nodes ∙ planned_nodes net st (plan net st) _ same nodes edges none;

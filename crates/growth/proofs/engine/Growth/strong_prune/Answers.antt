@@ -34,7 +34,7 @@ returns g c =
     let nodes = c.args.nodes_out.now in
     let edges = c.args.edges_out.now in
     let none = sym (not_refused _ c.in_ok-check_plan.ensures) ∙ ap (λ x. no_plan (network_of x) (state_of x)) (sym c.self.view_is) in
-    let same = strong_plan_shown net s.network.valid s.tables.steps s.tables c.self.invariant.shown c.grown_nodes-nodes.result c.grown_edges-edges.result c.grown_nodes-nodes.ensures.value c.grown_edges-edges.ensures none in
+    let same = strong_plan_shown net s.network.valid s.tables.steps s.tables c.self.invariant.shown c.grown_nodes-nodes.result c.grown_edges-edges.result c.grown_nodes-nodes.ensures c.grown_edges-edges.ensures none in
     rw (← c.self.view_is) (record {
       answer = c.strong_prune_tree.ensures.answer ∙ planned_answer net st (strong_plan net st) _ same nodes edges none;
       nodes = c.strong_prune_tree.ensures.nodes ∙ planned_nodes net st (strong_plan net st) _ same nodes edges none;

@@ -7,8 +7,8 @@ use Rattle.pruning.proofs.Ranges.{marks_made}
 use Rattle.growth.proofs.TreeMarks.{grown_below, marks_whole}
 use Rattle.growth.proofs.snapshot.Snapshot.grown_nodes.Goals as goal
 
-pub returns-clause-value : goal.returns-clause-value
-returns-clause-value c =
+pub returns : goal.returns
+returns c =
     let n = c.args.self.now.network.now in
     let net = net_of n in
     let k = c.args.self.now.tables.now.steps in

@@ -12,13 +12,13 @@ pub is_among-requires : goal.is_among-requires
 is_among-requires c =
     let count = edges_counted (net_of c.args.self.now.network.now) c.edges.result.now c.edges.ensures in
     let l = c.if-s-edges.true in
-    record { known = omega arith; long = c.requires.long }
+    omega arith
 
 pub returns-then-s-edges : goal.returns-then-s-edges
 returns-then-s-edges c =
     let s = c.args.self.now in
     let n = s.network.now in
-    c.is_among.ensures ∙ edge_grown (net_of n) n.valid s.tables.now.steps s.tables.now s.shown (marked c.args.nodes.now) c.requires.grown c.args.s
+    c.is_among.ensures ∙ edge_grown (net_of n) n.valid s.tables.now.steps s.tables.now s.shown (marked c.args.nodes.now) c.requires c.args.s
 
 pub returns-else-s-edges : goal.returns-else-s-edges
 returns-else-s-edges c =
