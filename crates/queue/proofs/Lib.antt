@@ -3,3 +3,4 @@ pub mod Firsts
 pub mod Writes
 pub mod Keeps
 pub mod Drains
+pub mod Least

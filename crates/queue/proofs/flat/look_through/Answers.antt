@@ -1,18 +1,12 @@
--- One turn looks at one entry; after the last none is left.
-use Rattle.std.proofs.Common.{◌+◌, ◌<◌, ◌≤◌, length, drop, None, sym, ap, ◌∙◌, arith}
-use Rattle.std.proofs.lemmas.List.{at_drop_more, at_drop_all}
-use Rattle.queue.specs.Tables.{scan}
+-- The least pair of all entries is what a look through the table finds.
+use Rattle.std.proofs.Common.{sym, ◌∙◌, rules, tests}
+use Rattle.std.proofs.lemmas.Iterator.{YieldsList-from_slice}
+use Rattle.std.proofs.lemmas.Iterator.Consumers.{YieldsList-from_enumerate, YieldsList-from_filter_map, reduce_from_yields_List}
+use Rattle.queue.proofs.Least.{lesser, entry_of, scan_least}
 use Rattle.queue.proofs.flat.look_through.Goals as goal
-
-pub loop-i-preserved : goal.loop-i-preserved
-loop-i-preserved c =
-    let t = c.args.times.now in
-    let i = c.loop-i.i in
-    let h : i < length t = omega arith in
-    ap (λ found. scan found (i + 1) (drop (i + 1) t)) c.sooner-found.ensures ∙ sym (at_drop_more (scan c.loop-i.found i) t i None h) ∙ c.loop-i.invariant
 
 pub returns : goal.returns
 returns c =
     let t = c.args.times.now in
-    let h : length t ≤ c.loop-i.i = omega arith in
-    sym (at_drop_all (scan c.loop-i.found c.loop-i.i) t c.loop-i.i h) ∙ c.loop-i.invariant
+    reduce_from_yields_List lesser c.filter_map.result c.min.result c.min.ensures.ran (YieldsList-from_filter_map _ entry_of (YieldsList-from_enumerate (YieldsList-from_slice t (cc)) (cc)) c.filter_map.ensures.closure (λ x r q k. search (rules, tests)))
+    ∙ sym (scan_least 0 t)
