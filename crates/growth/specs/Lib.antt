@@ -9,3 +9,4 @@ pub mod Grown
 pub mod Asked
 pub mod Plans
 pub mod Numbers
+pub mod Snapshots

@@ -1,10 +1,9 @@
 // Due times, from the tables.
 ghost use Rattle.std.specs.Prelude.{◌≡◌, ◌+◌, ◌^◌, ◌<◌, slice_index_or};
-ghost use Rattle.network.specs.Networks.{net_of};
 ghost use Rattle.theory.specs.Clusters.Slot.{inside};
 ghost use Rattle.theory.specs.Due.{cluster_due, slack_due, edge_due};
-ghost use Rattle.theory.specs.Growth.{grow};
 ghost use Rattle.theory.specs.Nets.{edge_count};
+ghost use Rattle.growth.specs.Snapshots.{net_in, state_in};
 
 use crate::Snapshot;
 use crate::memberships::grows;
@@ -27,7 +26,7 @@ fn slack_due(first: bool, second: bool, time: u64, left: u64) -> Option<u64>
 impl Snapshot<'_> {
     // When the cluster of this number is due: an active maximal one when its surplus has run out, any other not at all.
     pub(crate) fn cluster_due(&self, c: usize) -> Option<u64>
-        ensures { result ≡ cluster_due (net_of self.now.network.now) (grow (net_of self.now.network.now) self.now.tables.now.steps).time (slice_index_or (grow (net_of self.now.network.now) self.now.tables.now.steps).slots c inside) }
+        ensures { result ≡ cluster_due (net_in self.now) (state_in self.now).time (slice_index_or (state_in self.now).slots c inside) }
     {
         let tables = self.tables;
         if !grows(&tables.family.clusters, c) {
@@ -40,8 +39,8 @@ impl Snapshot<'_> {
 
     // When an edge is due: half its slack from now between two active clusters, its slack from now with one active, else not at all.
     pub(crate) fn edge_due(&self, s: usize) -> Option<u64>
-        requires { s < edge_count (net_of self.now.network.now) }
-        ensures { result ≡ edge_due (net_of self.now.network.now) (grow (net_of self.now.network.now) self.now.tables.now.steps).time (grow (net_of self.now.network.now) self.now.tables.now.steps).slots s }
+        requires { s < edge_count (net_in self.now) }
+        ensures { result ≡ edge_due (net_in self.now) (state_in self.now).time (state_in self.now).slots s }
     {
         let tables = self.tables;
         let edge = edge_at(self.network, s);

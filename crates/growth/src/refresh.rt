@@ -1,10 +1,10 @@
 // Keeping the queue's table in step with the due times.
 ghost use Rattle.std.specs.Prelude.{◌≡◌, ℕ, ◌+◌, ◌<◌, ◌≤◌, true, None, slice_index_or};
 ghost use Rattle.queue.specs.Tables.{with_entry};
-ghost use Rattle.network.specs.Networks.{net_of};
 ghost use Rattle.theory.specs.Nets.{edge_count};
 ghost use Rattle.theory.specs.Due.{among};
-ghost use Rattle.growth.specs.Refreshed.{dues_shown, Right, CaughtUp, is_at, touched, changed, Refreshed};
+ghost use Rattle.growth.specs.Refreshed.{Right, CaughtUp, is_at, touched, changed, Refreshed};
+ghost use Rattle.growth.specs.Snapshots.{net_in, dues_in};
 
 use crate::reads::edge_at;
 use crate::{Event, Snapshot};
@@ -13,7 +13,7 @@ use queue::EventQueue;
 impl Snapshot<'_> {
     // When what stands under this number is due; an edge that is not entered, not at all.
     fn due(&self, number: usize) -> Option<u64>
-        ensures { result ≡ slice_index_or (dues_shown (net_of self.now.network.now) self.now.tables.now) number None }
+        ensures { result ≡ slice_index_or (dues_in self.now) number None }
     {
         match Event::from(number) {
             Event::Deactivated { cluster } => self.cluster_due(cluster),
@@ -28,8 +28,8 @@ impl Snapshot<'_> {
 
     // Whether an end of the edge is in this cluster.
     fn is_at(&self, c: usize, s: usize) -> bool
-        requires { s < edge_count (net_of self.now.network.now) }
-        ensures { result ≡ is_at (net_of self.now.network.now) self.now.tables.now c s }
+        requires { s < edge_count (net_in self.now) }
+        ensures { result ≡ is_at (net_in self.now) self.now.tables.now c s }
     {
         let edge = edge_at(self.network, s);
         let nodes = &self.tables.nodes.list;
@@ -50,15 +50,15 @@ fn write_entry<Q: EventQueue>(queue: &mut Q, number: usize, entry: Option<u64>)
 
 // Brings the entry of one number up to date.
 fn write_due<Q: EventQueue>(queue: &mut Q, grown: &Snapshot, number: usize)
-    ensures caught { CaughtUp (dues_shown (net_of grown.now.network.now) grown.now.tables.now) (Q.EventQueue.table queue.old) (Q.EventQueue.table queue.new) }
-    ensures here { Right (dues_shown (net_of grown.now.network.now) grown.now.tables.now) (Q.EventQueue.table queue.new) number }
+    ensures caught { CaughtUp (dues_in grown.now) (Q.EventQueue.table queue.old) (Q.EventQueue.table queue.new) }
+    ensures here { Right (dues_in grown.now) (Q.EventQueue.table queue.new) number }
 {
     write_entry(queue, number, grown.due(number));
 }
 
 // Every entry anew, whatever the queue held.
 pub(crate) fn fill<Q: EventQueue>(queue: &mut Q, grown: &Snapshot)
-    ensures { Q.EventQueue.table queue.new ≡ dues_shown (net_of grown.now.network.now) grown.now.tables.now }
+    ensures { Q.EventQueue.table queue.new ≡ dues_in grown.now }
 {
     queue.clear();
     // By number: there is no list of what stands under the numbers.
@@ -69,9 +69,9 @@ pub(crate) fn fill<Q: EventQueue>(queue: &mut Q, grown: &Snapshot)
 
 // Brings the edge's entry up to date if an end of it is in the cluster.
 fn refresh_edge<Q: EventQueue>(queue: &mut Q, grown: &Snapshot, c: usize, s: usize)
-    requires { s < edge_count (net_of grown.now.network.now) }
-    ensures caught { CaughtUp (dues_shown (net_of grown.now.network.now) grown.now.tables.now) (Q.EventQueue.table queue.old) (Q.EventQueue.table queue.new) }
-    ensures here { is_at (net_of grown.now.network.now) grown.now.tables.now c s ≡ true → Right (dues_shown (net_of grown.now.network.now) grown.now.tables.now) (Q.EventQueue.table queue.new) (511 + s) }
+    requires { s < edge_count (net_in grown.now) }
+    ensures caught { CaughtUp (dues_in grown.now) (Q.EventQueue.table queue.old) (Q.EventQueue.table queue.new) }
+    ensures here { is_at (net_in grown.now) grown.now.tables.now c s ≡ true → Right (dues_in grown.now) (Q.EventQueue.table queue.new) (511 + s) }
 {
     if !grown.is_at(c, s) {
         return;
@@ -81,8 +81,8 @@ fn refresh_edge<Q: EventQueue>(queue: &mut Q, grown: &Snapshot, c: usize, s: usi
 
 // Brings the entries of the edges at a cluster up to date.
 fn refresh_edges<Q: EventQueue>(queue: &mut Q, grown: &Snapshot, c: usize)
-    ensures caught { CaughtUp (dues_shown (net_of grown.now.network.now) grown.now.tables.now) (Q.EventQueue.table queue.old) (Q.EventQueue.table queue.new) }
-    ensures here { (s : ℕ) → s < edge_count (net_of grown.now.network.now) → is_at (net_of grown.now.network.now) grown.now.tables.now c s ≡ true → Right (dues_shown (net_of grown.now.network.now) grown.now.tables.now) (Q.EventQueue.table queue.new) (511 + s) }
+    ensures caught { CaughtUp (dues_in grown.now) (Q.EventQueue.table queue.old) (Q.EventQueue.table queue.new) }
+    ensures here { (s : ℕ) → s < edge_count (net_in grown.now) → is_at (net_in grown.now) grown.now.tables.now c s ≡ true → Right (dues_in grown.now) (Q.EventQueue.table queue.new) (511 + s) }
 {
     let count = grown.network.edges().len();
     // By number: under it the queue has the edge's entry.
@@ -95,8 +95,8 @@ fn refresh_edges<Q: EventQueue>(queue: &mut Q, grown: &Snapshot, c: usize)
 fn refresh_clusters<Q: EventQueue>(queue: &mut Q, grown: &Snapshot, number: usize) -> usize
     requires { 1 ≤ grown.now.tables.now.family.formed }
     ensures answer { result ≡ changed grown.now.tables.now number }
-    ensures caught { CaughtUp (dues_shown (net_of grown.now.network.now) grown.now.tables.now) (Q.EventQueue.table queue.old) (Q.EventQueue.table queue.new) }
-    ensures here { (c : ℕ) → among c (touched grown.now.tables.now number) ≡ true → Right (dues_shown (net_of grown.now.network.now) grown.now.tables.now) (Q.EventQueue.table queue.new) c }
+    ensures caught { CaughtUp (dues_in grown.now) (Q.EventQueue.table queue.old) (Q.EventQueue.table queue.new) }
+    ensures here { (c : ℕ) → among c (touched grown.now.tables.now number) ≡ true → Right (dues_in grown.now) (Q.EventQueue.table queue.new) c }
 {
     if let Event::Deactivated { cluster } = Event::from(number) {
         write_due(queue, grown, cluster);
@@ -114,7 +114,7 @@ fn refresh_clusters<Q: EventQueue>(queue: &mut Q, grown: &Snapshot, number: usiz
 // After the event under a number: only entries at its clusters are written.
 pub(crate) fn refresh<Q: EventQueue>(queue: &mut Q, grown: &Snapshot, number: usize)
     requires { 1 ≤ grown.now.tables.now.family.formed }
-    ensures { Refreshed (net_of grown.now.network.now) grown.now.tables.now number (dues_shown (net_of grown.now.network.now) grown.now.tables.now) (Q.EventQueue.table queue.old) (Q.EventQueue.table queue.new) }
+    ensures { Refreshed (net_in grown.now) grown.now.tables.now number (dues_in grown.now) (Q.EventQueue.table queue.old) (Q.EventQueue.table queue.new) }
 {
     let c = refresh_clusters(queue, grown, number);
     refresh_edges(queue, grown, c);
