@@ -6,24 +6,6 @@ use Rattle.growth.specs.Grown.{network_of, state_of, next_due}
 use Rattle.growth.proofs.Calls.{going, first_is, some_formed, next_state, next_shown, next_queue}
 use Rattle.growth.proofs.engine.Growth.advance.Goals as goal
 
-pub happen-requires : goal.happen-requires
-happen-requires g c =
-    let s = c.self.inside in
-    let due = c.requires ∙ ap (λ x. next_due (network_of x) (state_of x)) (sym c.self.view_is) in
-    let sound = c.self.invariant in
-    record {
-      shown = sound.shown;
-      going = going _ s.network.valid s.tables _ sound c.args.time c.args.number due;
-      first = first_is _ s.network.valid s.tables _ sound c.args.time c.args.number due;
-    }
-
-pub refresh-requires : goal.refresh-requires
-refresh-requires g c =
-    let s = c.self.inside in
-    let due = c.requires ∙ ap (λ x. next_due (network_of x) (state_of x)) (sym c.self.view_is) in
-    let sound = c.self.invariant in
-    some_formed _ s.network.valid s.tables _ sound c.args.time c.args.number due c.happen.new.self c.happen.ensures
-
 pub invariant_of-grown : goal.invariant_of-grown
 invariant_of-grown g c =
     let s = c.self.inside in
