@@ -5,7 +5,7 @@ ghost use Rattle.std.specs.Prelude.{◌≡◌, Ok, Err, IfOk, MatchResult};
 ghost use Rattle.network.specs.Networks.{net_of};
 ghost use Rattle.sheet.specs.Sheets.{read_sheet};
 
-use network::Network;
+use network::{MOST_EDGES, Network};
 use refusal::Refusal;
 use sheet::SheetLoader;
 use std::alloc::{AllocError, Global};
@@ -15,8 +15,6 @@ use worklist::work_list;
 
 // No more of the input is taken as the sheet.
 const MOST_BYTES: u64 = 65_536;
-
-const MOST_EDGES: usize = 1024;
 
 fn read_input<R: Input + AllocGlobal>(rt: &R) -> io::Result<Vec<u8>> {
     let mut sheet = Vec::new(rt.alloc());

@@ -8,7 +8,7 @@ pub enum Phase {
     Inactive,
 }
 
-// `parts` is none for a node alone.
+// `parts` is none for a node alone, else the numbers of two clusters: a tree of boxes would want memory.
 #[derive(Clone, Copy)]
 pub struct Cluster {
     pub(crate) phase: Phase,

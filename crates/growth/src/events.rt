@@ -32,7 +32,7 @@ impl Tables {
         self.steps += 1;
     }
 
-    // What is due under a number happens, and time moves on to when it is due.
+    // What is due under a number happens, and time moves on to when it is due. The number is the queue's, whose table contracts speak of.
     pub(crate) fn happen(&mut self, network: &Network, time: u64, number: usize)
         requires shown { Shown (net_of network.now) self.old }
         requires going { ended (grow (net_of network.now) self.old.steps) ≡ false }

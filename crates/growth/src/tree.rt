@@ -54,7 +54,7 @@ impl Snapshot<'_> {
         array::from_fn(|v| self.is_grown(v) as u8)
     }
 
-    // Whether an edge is chosen and both its ends are among the nodes.
+    // Whether an edge is chosen and both its ends are among the nodes. Pruning's own takes lists of any length.
     fn is_among(&self, nodes: &[u8; 256], s: usize) -> bool
         requires { s < edge_count (net_in self.now) }
         ensures { result ≡ edges_among (net_in self.now) (marked self.now.tables.now.chosen.marks) (marked nodes.now) s }

@@ -9,9 +9,10 @@ use super::{Code, Edge, Network};
 use refusal::Refusal;
 use std::alloc::{AllocError, Global};
 
-const MOST_NODES: usize = 256;
+// How many nodes and edges a network has room for.
+pub const MOST_NODES: usize = 256;
 
-const MOST_EDGES: usize = 1024;
+pub const MOST_EDGES: usize = 1024;
 
 const MOST_AMOUNT: u64 = 1_000_000_000;
 

@@ -11,5 +11,6 @@ mod network;
 
 pub use code::Code;
 pub use edge::Edge;
+pub use entries::{MOST_EDGES, MOST_NODES};
 pub use entry::Entry;
 pub use network::Network;

@@ -2,9 +2,7 @@
 #![tactic(auto)]
 
 use console::{print_edges, with_network};
-use network::Network;
-
-const MOST_EDGES: usize = 1024;
+use network::{MOST_EDGES, Network};
 
 fn print_network(rt: &impl Print, network: &Network) -> anyhow::Result<()> {
     let nodes = network.prizes().len();

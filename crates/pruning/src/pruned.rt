@@ -37,6 +37,7 @@ fn degree(tree: &Tree<'_>, shapes: &[Shape], c: usize) -> usize
 }
 
 // Whether a cluster is inactive and just one edge of the tree leaves it.
+// Here and around it the shapes are few by a `requires`: a struct round one slice would say no more.
 fn is_prunable(tree: &Tree<'_>, shapes: &[Shape], c: usize) -> bool
     requires listed { c < length shapes.now }
     requires few { length shapes.now ≤ 511 }

@@ -43,7 +43,7 @@ fn write_marks<F: Fn(usize) -> bool>(out: &mut [u8], test: F)
     }
 }
 
-// Writes a tree as a plan to the front of two lists that are long enough.
+// Writes a tree as a plan to the front of two lists that are long enough, lent one by one as the callers' are.
 pub(crate) fn write_plan(tree: &Tree<'_>, nodes_out: &mut [u8], edges_out: &mut [u8]) -> Answer
     requires nodes { node_count (net_under tree.now) ≤ length nodes_out.old }
     requires edges { edge_count (net_under tree.now) ≤ length edges_out.old }

@@ -27,7 +27,7 @@ pub enum Refusal {
 }
 
 impl Refusal {
-    // The number under which the documents and the program's report name it.
+    // The number under which the documents and the program's report name it. A method and no `From`, as `line` is.
     pub fn number(self) -> u8
         ensures { result ≡ refusal_number self }
     {

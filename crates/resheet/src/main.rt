@@ -3,15 +3,12 @@
 
 use console::{print_refusal, with_network};
 use network::Network;
-use sheet::write_sheet;
+use sheet::{MOST_BYTES, write_sheet};
 use std::io;
 use std::io::Write;
 
-// The longest sheet that a network is written as.
-const MOST_TEXT: usize = 34_048;
-
 fn print_sheet(rt: &impl Print, network: &Network) -> anyhow::Result<()> {
-    let mut text = [0u8; MOST_TEXT];
+    let mut text = [0u8; MOST_BYTES];
     match write_sheet(network, &mut text) {
         Ok(len) => {
             io::writer(rt).write_all(&text[..len])?;

@@ -13,4 +13,4 @@ use field::Field;
 pub use loader::SheetLoader;
 use reader::Reader;
 use records::Lines;
-pub use writer::write_sheet;
+pub use writer::{MOST_BYTES, write_sheet};

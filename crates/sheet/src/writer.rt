@@ -12,7 +12,7 @@ use network::{Edge, Network};
 use refusal::Refusal;
 
 // The longest sheet: 256 lines of 13 bytes and 1,024 of 30.
-const MOST_BYTES: usize = 34_048;
+pub const MOST_BYTES: usize = 34_048;
 
 type Text = ArrayVec<u8, MOST_BYTES>;
 

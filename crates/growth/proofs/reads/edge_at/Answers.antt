@@ -4,9 +4,6 @@ use Rattle.theory.proofs.Valid.{fine}
 use Rattle.pruning.proofs.Links.{edges_counted, link_at}
 use Rattle.growth.proofs.reads.edge_at.Goals as goal
 
-pub bounds-edges-s : goal.bounds-edges-s
-bounds-edges-s c = let n = edges_counted (net_of c.args.network.now) c.edges.result.now c.edges.ensures in omega (arith, c.requires)
-
 pub returns : goal.returns
 returns c =
     let net = net_of c.args.network.now in

@@ -1,16 +1,8 @@
 -- A turn takes one entry out; an empty queue or a full list ends it.
-use Rattle.std.proofs.Common.{◌≡◌, ◌-◌, length, refl, ap, ◌∙◌, arith}
-use Rattle.queue.specs.Draining.{in_order, without}
+use Rattle.std.proofs.Common.{length, ◌∙◌, arith}
 use Rattle.std.proofs.lemmas.List.{set-get_or}
 use Rattle.queue.proofs.Drains as drains
 use Rattle.queue.proofs.draining.drain.Goals as goal
-
-pub loop-i-init : goal.loop-i-init
-loop-i-init g c =
-    let n = length c.args.out.now in
-    let t = g.Q.EventQueue.table c.args.queue.now in
-    let all : n - 0 ≡ n = omega arith in
-    record { taken = ap (λ m. in_order m t) all; left = ap (λ m. without m t) all; beyond = refl }
 
 pub loop-i-preserved : goal.loop-i-preserved
 loop-i-preserved g c =
@@ -32,12 +24,3 @@ returns-in_default g c =
     let told = c.in_default.ensures in
     let e = drains.ended_empty n l.i u t c.args.out.now l.out l.invariant (omega arith) told.answer after told.after in
     record { answer = e.0; after = e.1; written = set-get_or l.out l.i (0, 0) ∙ e.2 }
-
-pub returns : goal.returns
-returns g c =
-    let l = c.loop-i in
-    let n = length c.args.out.now in
-    let t = g.Q.EventQueue.table l.queue in
-    let u = g.Q.EventQueue.table c.args.queue.now in
-    let e = drains.ended_full n l.i u t c.args.out.now l.out l.invariant (omega arith) (omega arith) in
-    record { answer = e.0; after = e.1; written = e.2 }

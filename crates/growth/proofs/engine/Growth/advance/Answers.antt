@@ -3,7 +3,7 @@ use Rattle.network.specs.Networks.{net_of}
 use Rattle.theory.specs.Growth.{step}
 use Rattle.theory.proofs.Laws.{laws_hold}
 use Rattle.growth.specs.Grown.{network_of, state_of, next_due}
-use Rattle.growth.proofs.Calls.{going, first_is, some_formed, next_state, next_shown, next_queue}
+use Rattle.growth.proofs.Calls.{next_state, next_shown, next_queue}
 use Rattle.growth.proofs.engine.Growth.advance.Goals as goal
 
 pub invariant_of-grown : goal.invariant_of-grown

@@ -2,7 +2,7 @@ use Rattle.std.proofs.Common.{◌≡◌, ℕ, suc, ◌+◌, true, sym, refl, ap,
 use Rattle.network.specs.Nets.{Net}
 use Rattle.theory.specs.Growth.{State, ended, step, grow}
 use Rattle.theory.proofs.Laws.{laws_hold}
-use Rattle.growth.specs.Grown.{network_of, steps_of, state_of}
+use Rattle.growth.specs.Grown.{network_of, steps_of}
 use Rattle.growth.proofs.Endings.{still}
 use Rattle.growth.proofs.engine.Growth.grow.Goals as goal
 
@@ -17,12 +17,6 @@ further : (net next : Net) (k i : ℕ) (st after : State) → next ≡ net → s
 further net next k i st after same e is =
     let more : suc (k + i) ≡ k + (i + 1) = omega arith in
     is ∙ (λ j. step (same j) (e j)) ∙ ap (grow net) more
-
-pub loop-preserved : goal.loop-preserved
-loop-preserved g c =
-    let s = c.args.self.now in
-    let h = c.step.ensures in
-    (h.network ∙ c.loop.invariant.0, further (network_of s) (network_of c.loop.self) (steps_of s) c.loop.counter (state_of c.loop.self) (state_of c.step.new.self) c.loop.invariant.0 c.loop.invariant.1 h.state)
 
 pub returns-then-has_ended : goal.returns-then-has_ended
 returns-then-has_ended g c =

@@ -2,15 +2,8 @@ use Rattle.std.proofs.Common.{get_or, set, ap, ◌∙◌, arith}
 use Rattle.std.proofs.lemmas.List.Edits.{map_over_more}
 use Rattle.std.proofs.lemmas.List.{get_or_default}
 use Rattle.growth.specs.Records.{vacant, widened}
-use Rattle.growth.proofs.InPlace.{unreached, still_long}
+use Rattle.growth.proofs.InPlace.{still_long}
 use Rattle.growth.proofs.family.Family.pass.Goals as goal
-
-pub grow-requires : goal.grow-requires
-grow-requires c =
-    let l = c.loop-cluster in
-    let whole = c.args.self.now.whole in
-    let same = ap (λ k. k.moat) (unreached (widened c.args.by) c.args.self.now.clusters l.cluster-items l.cluster-index l.invariant (omega arith) vacant) in
-    omega (arith, c.requires l.cluster-index)
 
 pub loop-cluster-preserved : goal.loop-cluster-preserved
 loop-cluster-preserved c =

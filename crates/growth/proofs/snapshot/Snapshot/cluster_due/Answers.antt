@@ -4,7 +4,6 @@ use Rattle.network.specs.declared.network.Network.{Network}
 use Rattle.theory.specs.Clusters.Slot.{inside}
 use Rattle.theory.specs.Growth.{grow}
 use Rattle.theory.proofs.Laws.{formed_by_number, numbers_stay_small}
-use Rattle.theory.proofs.Valid.{fine}
 use Rattle.growth.specs.NodeTables.{grows_at}
 use Rattle.growth.specs.Shown.{ShowsAll}
 use Rattle.growth.specs.Sums.{prizes_in}
@@ -29,15 +28,6 @@ returns-then-not-grows c =
     let st = grow net t.steps in
     let formed = formed_by_number net c.args.self.now.network.now.valid t.steps in
     sym (idle_due net st.time (get_or st.slots c.args.c inside) (sym (grows_shown net t st formed c.args.self.now.shown c.args.c) ∙ sym c.grows.ensures ∙ c.if-not-grows.true))
-
-pub doubled_prizes-prizes-requires : goal.doubled_prizes-prizes-requires
-doubled_prizes-prizes-requires c =
-    let net = net_of c.args.self.now.network.now in
-    let f = fine net c.args.self.now.network.now.valid in
-    let few = f.few_nodes in
-    let same = ap length c.prizes.ensures in
-    let whole = c.args.self.now.tables.now.nodes.whole in
-    record { few = omega arith; long = omega arith; small = λ v. let e = ap (λ ps. get_or ps v 0) c.prizes.ensures in omega (arith, f.prizes v) }
 
 pub inner_moats-moats-requires : goal.inner_moats-moats-requires
 inner_moats-moats-requires c =

@@ -28,12 +28,6 @@ returns-then-edge-edges c =
     let beyond = c.if-edge-edges.true in
     sym (none_beyond net (fine net n.valid) st.time st.slots c.args.number h.0 (omega arith))
 
-pub edge_due-requires : goal.edge_due-requires
-edge_due-requires c =
-    let count = edges_counted (net_of c.args.self.now.network.now) c.edges.result.now c.edges.ensures in
-    let l = c.if-edge-edges.false in
-    omega arith
-
 pub returns-else-edge-edges : goal.returns-else-edge-edges
 returns-else-edge-edges c =
     let n = c.args.self.now.network.now in

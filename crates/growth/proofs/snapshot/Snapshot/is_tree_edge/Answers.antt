@@ -8,12 +8,6 @@ use Rattle.pruning.proofs.Links.{edges_counted}
 use Rattle.growth.proofs.TreeMarks.{grown_edge_below, edge_grown}
 use Rattle.growth.proofs.snapshot.Snapshot.is_tree_edge.Goals as goal
 
-pub is_among-requires : goal.is_among-requires
-is_among-requires c =
-    let count = edges_counted (net_of c.args.self.now.network.now) c.edges.result.now c.edges.ensures in
-    let l = c.if-s-edges.true in
-    omega arith
-
 pub returns-then-s-edges : goal.returns-then-s-edges
 returns-then-s-edges c =
     let s = c.args.self.now in

@@ -52,15 +52,6 @@ edge_at-ends-requires c =
     let st = grow (net_of n) c.args.self.now.steps in
     subst (λ e. e < edge_count (net_of n)) (sym h.1) (edge_known (net_of n) (fine (net_of n) n.valid) st.time st.slots c.args.time c.args.number c.requires.first h.0)
 
-pub offset_bounds-self-ends : goal.offset_bounds-self-ends
-offset_bounds-self-ends c = omega (arith, c.edge_at-ends.ensures.within)
-
-pub bounds-self-ends : goal.bounds-self-ends
-bounds-self-ends c = omega (arith, c.edge_at-ends.ensures.within)
-
-pub offset_bounds-self-ends-in-Merged : goal.offset_bounds-self-ends-in-Merged
-offset_bounds-self-ends-in-Merged c = omega (arith, c.edge_at-ends.ensures.within)
-
 pub bounds-self-ends-in-Merged : goal.bounds-self-ends-in-Merged
 bounds-self-ends-in-Merged c = omega (arith, c.edge_at-ends.ensures.within)
 

@@ -1,19 +1,11 @@
 -- The removed entry's key is taken out; a refused number is past the table, which then stays.
-use Rattle.std.proofs.Common.{◌<◌, ◌≤◌, length, set, None, Err, ap, ◌∙◌, arith}
+use Rattle.std.proofs.Common.{◌<◌, ◌≤◌, length, set, None, ◌∙◌, arith}
 use Rattle.std.proofs.lemmas.List.{length-set}
-use Rattle.std.proofs.lemmas.Result.{err_from_is_err_and}
 use Rattle.heap.specs.Bags.{bag_of, room_of}
 use Rattle.queue.specs.Timed.{KeysOf}
 use Rattle.queue.proofs.Keeps.{entry_held, taken_out}
-use Rattle.queue.proofs.Writes.{taken_below, refused_stays}
+use Rattle.queue.proofs.Writes.{taken_below}
 use Rattle.queue.proofs.heaped.HeapQueueEventQueue.remove.Goals as goal
-
-pub returns-in_err-check_number : goal.returns-in_err-check_number
-returns-in_err-check_number c =
-    let q = c.args.self.now in
-    let p = err_from_is_err_and c.from_residual.result c.from_residual.ensures.1 in
-    let told = c.in_err-check_number.ensures in
-    record { answer = p.1 ∙ ap Err p.2 ∙ told; after = refused_stays q.times c.args.number None _ q.full told }
 
 pub invariant_of-self : goal.invariant_of-self
 invariant_of-self c =

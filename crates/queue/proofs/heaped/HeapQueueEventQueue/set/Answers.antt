@@ -1,22 +1,14 @@
 -- The old entry's key is taken out and the new one's put in; a refused number is past the table, which then stays.
-use Rattle.std.proofs.Common.{◌≡◌, ◌<◌, ◌≤◌, cond, ◌∷◌, length, set, is_ok, Some, Ok, Err, sym, ap, ◌∙◌, subst, arith}
+use Rattle.std.proofs.Common.{◌≡◌, ◌<◌, ◌≤◌, cond, ◌∷◌, length, set, is_ok, Some, Ok, Err, sym, ◌∙◌, subst, arith}
 use Rattle.std.specs.List.Sorted.{IsPermutation}
 use Rattle.std.proofs.lemmas.List.{length-set}
-use Rattle.std.proofs.lemmas.Result.{err_from_is_err_and}
 use Rattle.std.proofs.lemmas.Bool.{cond_below}
 use Rattle.refusal.specs.declared.Refusal.TheVariants.{HeapFull}
 use Rattle.heap.specs.Bags.{bag_of, room_of}
 use Rattle.queue.specs.Timed.{KeysOf}
 use Rattle.queue.proofs.Keeps.{entry_held, put_in, room_left}
-use Rattle.queue.proofs.Writes.{taken_below, refused_stays}
+use Rattle.queue.proofs.Writes.{taken_below}
 use Rattle.queue.proofs.heaped.HeapQueueEventQueue.set.Goals as goal
-
-pub returns-in_err-check_number : goal.returns-in_err-check_number
-returns-in_err-check_number c =
-    let q = c.args.self.now in
-    let p = err_from_is_err_and c.from_residual.result c.from_residual.ensures.1 in
-    let told = c.in_err-check_number.ensures in
-    record { answer = p.1 ∙ ap Err p.2 ∙ told; after = refused_stays q.times c.args.number (Some c.args.time) _ q.full told }
 
 pub invariant_of-self : goal.invariant_of-self
 invariant_of-self c =
