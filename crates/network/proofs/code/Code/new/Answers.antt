@@ -1,4 +1,4 @@
-use Rattle.std.proofs.Common.{◌≡◌, ℕ, ◌-◌, ◌≤◌, true, cond, List, ◌++◌, length, take, drop, replicate, Some, None, sym, ap, ◌∙◌, arith, length-append}
+use Rattle.std.proofs.Common.{◌≡◌, ℕ, ◌-◌, ◌≤◌, true, List, ◌++◌, length, take, drop, replicate, sym, ap, ◌∙◌, arith, length-append}
 use Rattle.std.proofs.lemmas.List.{drop_at, take_at, drop-replicate, length-replicate}
 use Rattle.std.proofs.lemmas.Bool.Decides.{nat_tests}
 use Rattle.network.specs.Codes.{is_code}
@@ -35,11 +35,3 @@ invariant_of-result c =
     let e = sym c.if-not-is_code.ensures in
     let l = short text e in
     record { whole = whole text wrote is l; within = l; spelled = ap is_code (kept text wrote is l) ∙ e; padded = padded text wrote is l }
-
-pub returns : goal.returns
-returns c =
-    let text = c.args.text.now in
-    let wrote = c.copy_from_slice.new.self in
-    let is = c.copy_from_slice.ensures.after in
-    let e = c.if-not-is_code.ensures in
-    ap Some (kept text wrote is (short text (sym e))) ∙ ap (λ b. cond b (Some text) None) e

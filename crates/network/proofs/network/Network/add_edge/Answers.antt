@@ -1,39 +1,11 @@
-use Rattle.std.proofs.Common.{◌≡◌, length, Some, Ok, sym, ap, ◌∙◌, rules, arith}
+use Rattle.std.proofs.Common.{◌≡◌, length, Some, Ok, sym, ap, ◌∙◌, rules}
 use Rattle.std.specs.Option.{option_map}
-use Rattle.network.specs.Nets.{link, valid}
+use Rattle.network.specs.Nets.{link}
 use Rattle.network.specs.Edges.{text_of}
 use Rattle.network.specs.Entries.{answer_of, unless_refused, with_edge}
 use Rattle.network.specs.Networks.{net_of}
-use Rattle.network.proofs.Entering.{edges_long, edge_fits, edge_keeps_valid, code_made, no_edge_refusal, edge_pushed, not_refused}
+use Rattle.network.proofs.Entering.{edges_long, code_made, no_edge_refusal, edge_pushed, not_refused}
 use Rattle.network.proofs.network.Network.add_edge.Goals as goal
-
-pub push_reserved-requires : goal.push_reserved-requires
-push_reserved-requires c =
-    let was = c.args.self.now in
-    let a = c.args in
-    let new = link a.first a.second a.cost a.code.now in
-    let code = c.in_ok-code.code in
-    let made : c.new.result ≡ Some code = search rules in
-    let none = no_edge_refusal (net_of was) a.first a.second a.cost a.code.now (text_of code) (sym (not_refused _ c.in_ok-check_edge.ensures)) (ap (option_map text_of) (sym made) ∙ c.new.ensures) in
-    let n = edges_long was in
-    let room = was.edges_room in
-    omega (arith, (edge_fits (net_of was) new none).0)
-
-pub invariant_of-self : goal.invariant_of-self
-invariant_of-self c =
-    let was = c.args.self.now in
-    let a = c.args in
-    let new = link a.first a.second a.cost a.code.now in
-    let told = c.push_reserved.ensures in
-    let code = c.in_ok-code.code in
-    let made : c.new.result ≡ Some code = search rules in
-    let none = no_edge_refusal (net_of was) a.first a.second a.cost a.code.now (text_of code) (sym (not_refused _ c.in_ok-check_edge.ensures)) (ap (option_map text_of) (sym made) ∙ c.new.ensures) in
-    let same = (code_made a.code.now (text_of code) (ap (option_map text_of) (sym made) ∙ c.new.ensures)).1 in
-    record {
-      valid = ap valid (edge_pushed was _ _ a.code.now told.items same) ∙ edge_keeps_valid (net_of was) new was.valid none;
-      nodes_room = was.nodes_room;
-      edges_room = omega arith;
-    }
 
 pub returns : goal.returns
 returns c =
