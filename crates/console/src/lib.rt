@@ -37,18 +37,11 @@ pub fn print_refusal(rt: &impl Print, why: Refusal) -> anyhow::Result<()> {
     Ok(())
 }
 
-// Hands on the network of the sheet on standard input, or prints why it is refused.
-pub fn with_network<R: Input + Print + AllocGlobal, F: FnOnce(Network) -> anyhow::Result<()>>(
-    rt: &R,
-    show: F,
-) -> anyhow::Result<()>
-    requires { F.IsAlwaysCallable show }
-{
+// The network of the sheet on standard input, or why the sheet is refused.
+pub fn read_network<R: Input + AllocGlobal>(rt: &R) -> anyhow::Result<Result<Network, Refusal>> {
     let sheet = read_input(rt)?;
-    match network_of(rt.alloc(), sheet.as_slice())? {
-        Ok(network) => show(network),
-        Err(why) => print_refusal(rt, why),
-    }
+    let answer = network_of(rt.alloc(), sheet.as_slice())?;
+    Ok(answer)
 }
 
 fn print_edge(rt: &impl Print, network: &Network, number: u16) -> anyhow::Result<()> {

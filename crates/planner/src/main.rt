@@ -1,7 +1,7 @@
 // Reads a sheet on standard input and prints its network's edges in work-list order, or why it was refused.
 #![tactic(auto)]
 
-use console::{print_edges, with_network};
+use console::{print_edges, print_refusal, read_network};
 use network::{MOST_EDGES, Network};
 
 fn print_network(rt: &impl Print, network: &Network) -> anyhow::Result<()> {
@@ -13,5 +13,8 @@ fn print_network(rt: &impl Print, network: &Network) -> anyhow::Result<()> {
 }
 
 fn main(rt: HostRuntime) -> anyhow::Result<()> {
-    with_network(&rt, |network| print_network(&rt, &network))
+    match read_network(&rt)? {
+        Ok(network) => print_network(&rt, &network),
+        Err(why) => print_refusal(&rt, why),
+    }
 }

@@ -1,7 +1,7 @@
 // Reads a sheet on standard input, grows its network to the end, and prints both plans, or why it was refused.
 #![tactic(auto)]
 
-use console::{print_edges, print_refusal, with_network};
+use console::{print_edges, print_refusal, read_network};
 use network::Network;
 use queue::FlatQueue;
 use report::{Kept, Report, plan_network};
@@ -41,5 +41,8 @@ fn plan(rt: &impl Print, network: Network) -> anyhow::Result<()> {
 }
 
 fn main(rt: HostRuntime) -> anyhow::Result<()> {
-    with_network(&rt, |network| plan(&rt, network))
+    match read_network(&rt)? {
+        Ok(network) => plan(&rt, network),
+        Err(why) => print_refusal(&rt, why),
+    }
 }

@@ -1,7 +1,7 @@
 // Reads a sheet on standard input and prints it in the standard order: nodes first, then edges.
 #![tactic(auto)]
 
-use console::{print_refusal, with_network};
+use console::{print_refusal, read_network};
 use network::Network;
 use sheet::{MOST_BYTES, write_sheet};
 use std::io;
@@ -19,5 +19,8 @@ fn print_sheet(rt: &impl Print, network: &Network) -> anyhow::Result<()> {
 }
 
 fn main(rt: HostRuntime) -> anyhow::Result<()> {
-    with_network(&rt, |network| print_sheet(&rt, &network))
+    match read_network(&rt)? {
+        Ok(network) => print_sheet(&rt, &network),
+        Err(why) => print_refusal(&rt, why),
+    }
 }
