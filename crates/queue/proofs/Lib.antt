@@ -4,3 +4,4 @@ pub mod Writes
 pub mod Keeps
 pub mod Drains
 pub mod Least
+pub mod Scans

@@ -1,6 +1,6 @@
 // The flat queue, which looks through its table.
 ghost use Rattle.std.specs.Prelude.{◌≡◌, length};
-ghost use Rattle.queue.specs.Tables.{no_entries, first_entry};
+ghost use Rattle.queue.specs.Tables.{no_entries, first_entry, sooner};
 
 use crate::{EventQueue, check_number};
 use refusal::Refusal;
@@ -51,9 +51,22 @@ impl EventQueue for FlatQueue {
 pub(crate) fn look_through(times: &[Option<u64>]) -> Option<(u64, usize)>
     ensures { result ≡ first_entry times.now }
 {
-    times
-        .iter()
-        .enumerate()
-        .filter_map(|(number, entry)| entry.map(|time| (time, number)))
-        .min()
+    times.iter().enumerate().fold(None, |found, (number, entry)| sooner(found, number, *entry))
+}
+
+// The earlier of what was found so far and the entry at `i`; an equal time keeps what was found.
+fn sooner(found: Option<(u64, usize)>, i: usize, entry: Option<u64>) -> Option<(u64, usize)>
+    ensures { result ≡ sooner found i entry }
+{
+    match (found, entry) {
+        (_, None) => found,
+        (None, Some(time)) => Some((time, i)),
+        (Some((least, at)), Some(time)) => {
+            if time < least {
+                Some((time, i))
+            } else {
+                Some((least, at))
+            }
+        }
+    }
 }
