@@ -25,6 +25,8 @@ fn slack_due(first: bool, second: bool, time: u64, left: u64) -> Option<u64>
 
 impl Snapshot<'_> {
     // When the cluster of this number is due: an active maximal one when its surplus has run out, any other not at all.
+    // Kept a call: most numbers that are brought up to date are edges', and their loop is quicker without this in it.
+    #[inline(never)]
     pub(crate) fn cluster_due(&self, c: usize) -> Option<u64>
         ensures { result ≡ cluster_due (net_in self.now) (state_in self.now).time (slice_index_or (state_in self.now).slots c inside) }
     {

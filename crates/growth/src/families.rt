@@ -26,8 +26,8 @@ impl Family {
     {
         self.clusters
             .iter()
-            .filter(|cluster| cluster.is_growing())
-            .count()
+            .map(|cluster| cluster.is_growing() as usize)
+            .sum()
     }
 
     // Every active maximal cluster's moat grows.

@@ -30,7 +30,7 @@ impl Family {
     pub(crate) fn shapes(&self) -> [Shape; 511]
         ensures { result ≡ map shape_of self.now.clusters }
     {
-        self.clusters.map(|cluster| cluster.shape())
+        array::from_fn(|c| self.clusters[c].shape())
     }
 }
 
