@@ -1,4 +1,5 @@
 // Sheets, each with what reading it gives.
+use console::network_of;
 use network::Network;
 use refusal::Refusal;
 use sheet::SheetLoader;
@@ -191,5 +192,16 @@ fn keeps_the_network_when_refused(rt: HostRuntime) -> Result<(), Fail> {
     assert_eq!(rt; loader.read(b"N\t9\n", &mut network), Ok(()));
     assert_eq!(rt; network.prizes().first().copied(), Some(9));
     assert_eq!(rt; network.prizes().len(), 1);
+    Ok(())
+}
+
+#[test]
+fn gives_the_network_of_a_sheet(rt: HostRuntime) -> Result<(), Fail> {
+    let network = network_of(rt.alloc(), b"N\t7\nN\t8\nS\t0\t1\t5\tA1\n")??;
+    assert_eq!(rt; network.prizes().first().copied(), Some(7));
+    assert_eq!(rt; network.prizes().len(), 2);
+    assert_eq!(rt; network.edges().len(), 1);
+    let refused = network_of(rt.alloc(), b"N\t7\nN\t08\n")?.map(|_| ());
+    assert_eq!(rt; refused, Err(Refusal::LineForm { line: 2 }));
     Ok(())
 }

@@ -1,7 +1,7 @@
 // What the programs share: the network that a sheet on standard input says, and its edges printed in work-list order.
 #![tactic(auto)]
 
-ghost use Rattle.std.specs.Prelude.{◌≡◌, Ok, Err, IfOk, MatchResult};
+ghost use Rattle.std.specs.Prelude.{◌≡◌, ℕ, List, Ok, Err, IfOk, MatchResult};
 ghost use Rattle.network.specs.Networks.{net_of};
 ghost use Rattle.sheet.specs.Sheets.{read_sheet};
 
@@ -38,7 +38,9 @@ pub fn print_refusal(rt: &impl Print, why: Refusal) -> anyhow::Result<()> {
 }
 
 // The network of the sheet on standard input, or why the sheet is refused.
-pub fn read_network<R: Input + AllocGlobal>(rt: &R) -> anyhow::Result<Result<Network, Refusal>> {
+pub fn read_network<R: Input + AllocGlobal>(rt: &R) -> anyhow::Result<Result<Network, Refusal>>
+    ensures { IfOk result (λ said. (sheet : List ℕ) × MatchResult said (λ n. read_sheet sheet ≡ Ok (net_of n)) (λ why. read_sheet sheet ≡ Err why)) }
+{
     let sheet = read_input(rt)?;
     let answer = network_of(rt.alloc(), sheet.as_slice())?;
     Ok(answer)
